@@ -1,0 +1,4 @@
+pub mod Pieces
+pub mod Slashes
+pub mod Paths
+pub mod Laws

@@ -1,0 +1,4 @@
+pub mod Escapes
+pub mod Asked
+pub mod Dots
+pub mod Normal
