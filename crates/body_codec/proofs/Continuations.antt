@@ -108,6 +108,10 @@ refuses framing bytes bad more =
 pub is_read : (framing : Framing) (bytes body : List ℕ) → IsBody framing bytes body → IsRead framing bytes body
 is_read framing bytes body b = record { whole = body_ends framing bytes body b; found = body_gives framing bytes body b }
 
+-- what was given so far is the beginning of each body's content
+pub begins : (framing : Framing) (bytes rest body : List ℕ) → IsBody framing (bytes ++ rest) body → body ≡ content (start framing) bytes ++ content (run (start framing) bytes) rest
+begins framing bytes rest body b = sym (body_gives framing (bytes ++ rest) body b) ∙ content-append (start framing) bytes rest
+
 -- the answers of `feed` in the words of the grammar
 
 pub takes_of_body : (framing : Framing) (seen piece : List ℕ) (old new : Phase) (used from len : ℕ) (done : Bool) → run (start framing) seen ≡ old → Takes old piece used from len done new

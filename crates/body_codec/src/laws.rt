@@ -1,6 +1,6 @@
 //! What the definitions give together, in the words of the grammar. Nothing here runs: each contract
 //! is a fact that a caller may cite.
-ghost use Rattle.std.specs.Prelude.{◌≡◌, ◌≢◌, ℕ, List, true};
+ghost use Rattle.std.specs.Prelude.{◌≡◌, ◌≢◌, ℕ, List, ◌++◌, true};
 ghost use Rattle.std.specs.List.{flat_map, AllByRecursion};
 ghost use Rattle.body_codec.specs.Grammar.{IsBody, MayContinue};
 ghost use Rattle.body_codec.specs.Reading.{start, run, content, may_end};
@@ -20,6 +20,10 @@ pub fn reading_follows_the_grammar()
     ensures only { (framing : Framing) (bytes : List ℕ) →
         may_end (run (start framing) bytes) ≡ true →
         IsBody framing bytes (content (start framing) bytes) }
+    // The content that was given so far is the beginning of what each body that continues has.
+    ensures begins { (framing : Framing) (bytes rest body : List ℕ) →
+        IsBody framing (bytes ++ rest) body →
+        body ≡ content (start framing) bytes ++ content (run (start framing) bytes) rest }
     // Where the reading is not bad some body continues, and where it is none does.
     ensures good { (framing : Framing) (bytes : List ℕ) →
         run (start framing) bytes ≢ phases.Bad → MayContinue framing bytes }
