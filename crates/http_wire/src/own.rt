@@ -1,0 +1,112 @@
+//! The replies that the proxy makes by itself: errors with one line of text, and redirects.
+ghost use Rattle.std.specs.Prelude.{◌≡◌, ◌↔◌, ◌||◌, ◌++◌, ◌∷◌, [], IfOk, IsTrue, IsSome, option_map, map, codes, length};
+ghost use Rattle.std.specs.Str.{str_to_ascii_lowercase};
+ghost use Rattle.http_wire.specs.Own.{is_redirect, is_own_error, own_reason, own_words, content_of, IsLine, IsOwnReply};
+
+use crate::message::{Line, Reply};
+use body_codec::Framing;
+use px_base::{Bytes, List, Memory, print_decimal};
+use std::alloc::Global;
+
+/// The head of an own reply: with a location exactly where it is a redirect (301, 302, 307, 308).
+///
+/// The content that goes with any other one is `own_content`'s; a redirect has none.
+pub fn own_reply(alloc: Global, status: u16, location: Option<&[u8]>) -> Result<Reply, Memory>
+    requires known { IsTrue (is_redirect status || is_own_error status) }
+    requires located { IsTrue (is_redirect status) ↔ IsSome location }
+    ensures { IfOk result (IsOwnReply status (option_map (λ text. text.now) location.entry)) }
+{
+    match location {
+        Some(location) => redirect(alloc, status, location),
+        None => error(alloc, status),
+    }
+}
+
+/// The content of an own reply that is no redirect: the status and its reason, as one line.
+pub fn own_content(alloc: Global, status: u16) -> Result<Vec<u8>, Memory>
+    requires { IsTrue (is_own_error status) }
+    ensures { IfOk result (λ text. text.items ≡ content_of status) }
+{
+    let words = words_of(alloc, status)?;
+    let mut text = Vec::new(alloc);
+    print_decimal(status as u64, &mut text)?;
+    text.extend_from_slice(b" ")?;
+    text.extend_from_slice(words.as_slice())?;
+    text.extend_from_slice(b"\n")?;
+    Ok(text)
+}
+
+fn words_of(alloc: Global, status: u16) -> Result<Vec<u8>, Memory>
+    ensures { IfOk result (λ words. words.items ≡ own_words status) }
+{
+    if status == 404 {
+        return Vec::from_slice(alloc, b"page not found");
+    }
+    lowered(alloc, reason_of(status))
+}
+
+fn lowered(alloc: Global, text: &[u8]) -> Result<Vec<u8>, Memory>
+    ensures { IfOk result (λ lower. lower.items ≡ str_to_ascii_lowercase text.now) }
+{
+    text.iter().map(|b| b.to_ascii_lowercase()).collect(alloc)
+}
+
+fn reason_of(status: u16) -> &'static [u8]
+    ensures { result.now ≡ own_reason status }
+{
+    match status {
+        301 => b"Moved Permanently",
+        302 => b"Found",
+        307 => b"Temporary Redirect",
+        308 => b"Permanent Redirect",
+        400 => b"Bad Request",
+        403 => b"Forbidden",
+        404 => b"Not Found",
+        413 => b"Content Too Large",
+        429 => b"Too Many Requests",
+        431 => b"Request Header Fields Too Large",
+        501 => b"Not Implemented",
+        502 => b"Bad Gateway",
+        503 => b"Service Unavailable",
+        _ => b"Gateway Timeout",
+    }
+}
+
+fn error(alloc: Global, status: u16) -> Result<Reply, Memory>
+    requires { IsTrue (is_own_error status) }
+    ensures { IfOk result (IsOwnReply status None) }
+{
+    let content = own_content(alloc, status)?;
+    let line = line_of(alloc, b"Content-Type", b"text/plain; charset=utf-8")?;
+    reply_of(alloc, status, line, content.len() as u64)
+}
+
+fn redirect(alloc: Global, status: u16, location: &[u8]) -> Result<Reply, Memory>
+    ensures { IfOk result (IsOwnReply status (Some location.now)) }
+{
+    let line = line_of(alloc, b"Location", location)?;
+    reply_of(alloc, status, line, 0)
+}
+
+fn line_of(alloc: Global, name: &[u8], value: &[u8]) -> Result<Line, Memory>
+    ensures { IfOk result (λ line. IsLine line name.now value.now) }
+{
+    let name = Bytes::from_slice(alloc, name)?;
+    let value = Bytes::from_slice(alloc, value)?;
+    Ok(Line { name, value })
+}
+
+// A reply with this one line and content of this length.
+fn reply_of(alloc: Global, status: u16, line: Line, len: u64) -> Result<Reply, Memory>
+    ensures { IfOk result (λ a. (a.status ≡ status) × (a.reason ≡ own_reason status) × (a.lines ≡ line ∷ []) × (a.framing ≡ Framing.Length len)) }
+{
+    let reason = Bytes::from_slice(alloc, reason_of(status))?;
+    let mut lines = List::new(alloc);
+    lines.push(line)?;
+    Ok(Reply {
+        status,
+        reason,
+        lines,
+        framing: Framing::Length(len),
+    })
+}
