@@ -1,7 +1,7 @@
 -- The words of the command, and what the answers of its parts say together.
-use Rattle.std.proofs.Common.{◌≡◌, ℕ, List, [], ◌∷◌, length, Option, Some, None, Result, refl, Ok, Err, IfErr, subst, sym, get_or, map, ap, ◌∙◌, ◌<◌, ◌≤◌, arith, Bool, true, ◌↔◌, IsTrue, String, Global, string_bytes, codes}
+use Rattle.std.proofs.Common.{◌≡◌, ℕ, List, [], ◌∷◌, length, Option, Some, None, Result, refl, Ok, Err, IfErr, subst, sym, get_or, map, ap, ◌∙◌, ◌<◌, ◌≤◌, arith, Bool, ◌↔◌, IsTrue, String, Global, string_bytes, codes}
 use Rattle.proxy_cmd.specs.Form.{RouterDef, ServiceDef}
-use Rattle.proxy_cmd.specs.Output.{IsRoute, IsPlainWord, WasRead, IsConfigured, Unread, file_unread, input_unread}
+use Rattle.proxy_cmd.specs.Output.{IsRoute, IsPlainWord, WasRead, IsConfigured, file_unread, input_unread}
 use Rattle.proxy_cmd.specs.Reading.{MeansFile, ServesAll, StopsWords, StopsRoute, StopsInput}
 use Rattle.proxy_cmd.specs.Seen.{router_def, service_def}
 use Rattle.proxy_cmd.specs.declared.commands.Reading.{Reading}

@@ -1,5 +1,5 @@
 -- The host and the port of a server, and the text that spells them.
-use Rattle.std.proofs.Common.{◌≡◌, ◌≢◌, ℕ, ◌≤◌, ◌==◌, List, ◌∷◌, ◌++◌, get_or, All, Option, Some, None, MatchOption, Bor, Bool, true, false, sym, ◌∙◌, subst, IsTrue, codes}
+use Rattle.std.proofs.Common.{◌≡◌, ◌≢◌, ℕ, List, ◌∷◌, ◌++◌, get_or, All, Option, Some, None, MatchOption, Bor, sym, ◌∙◌, subst, IsTrue, codes}
 use Rattle.std.proofs.lemmas.List.{append_cancel_left}
 use Rattle.std.proofs.lemmas.Bool.{false≢true}
 use Rattle.px_base.proofs.Cuts.{cut_same, cut_none}

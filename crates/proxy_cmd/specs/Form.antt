@@ -1,9 +1,9 @@
 -- The first form of a configuration file: routers and services, as data of a TOML document.
-use Rattle.std.specs.Prelude.{◌≡◌, ◌≢◌, ℕ, ◌<◌, ◌≤◌, ◌⊎◌, Bool, true, false, ◌&&◌, ◌||◌, ◌==◌, List, [], ◌∷◌, ◌++◌, length, All, codes, Option, Some, None, IsTrue, is_some, ⊤}
+use Rattle.std.specs.Prelude.{◌≡◌, ◌≢◌, ℕ, ◌≤◌, Bool, true, ◌&&◌, ◌||◌, ◌==◌, List, [], ◌∷◌, ◌++◌, length, All, codes, Option, Some, None, IsTrue, is_some, ⊤}
 use Rattle.std.specs.Str.{bytes_eq}
 use Rattle.std.specs.Str.Parse.{digits_value}
 use Rattle.std.specs.Char.{is_ascii_alphanumeric}
-use Rattle.toml.specs.Data.{Data, string, array, table, Items, no_items, item, Members, no_members, member, get_member}
+use Rattle.toml.specs.Data.{Data, string, array, table, no_items, item, Members, no_members, member, get_member}
 use Rattle.px_base.specs.Decimals.{IsDecimal}
 use Rattle.rule_lang.specs.declared.leaf.Matcher.{Matcher}
 use Rattle.rule_lang.specs.Leaf.{IsLeaf}

@@ -1,11 +1,11 @@
 -- What a file was read as, and why a reading stopped.
-use Rattle.std.specs.Prelude.{◌≡◌, List, ℕ, map, Option, Result, Ok, Err, ⊤}
+use Rattle.std.specs.Prelude.{List, ℕ, map, Option, ⊤}
 use Rattle.toml.specs.Data.{Members}
 use Rattle.proxy_cmd.specs.declared.commands.Reading.{Reading}
 use Rattle.proxy_cmd.specs.declared.commands.Reading.TheVariants.{NotToml, Later, Read}
 use Rattle.proxy_cmd.specs.declared.commands.Stop.{Stop}
 use Rattle.proxy_cmd.specs.declared.commands.Stop.TheVariants.{File, Input, Memory}
-use Rattle.proxy_cmd.specs.Form.{RouterDef, ServiceDef, IsPlan}
+use Rattle.proxy_cmd.specs.Form.{RouterDef, ServiceDef}
 use Rattle.proxy_cmd.specs.Seen.{router_def, service_def}
 use Rattle.proxy_cmd.specs.Output.{IsDocument, IsLater, Declares, AllServed, IsConfigured, Unread}
 

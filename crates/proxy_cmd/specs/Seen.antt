@@ -1,5 +1,5 @@
 -- What the values of the code stand for.
-use Rattle.std.specs.Prelude.{string_bytes, Option, Some, None, String}
+use Rattle.std.specs.Prelude.{Option, Some, None, String}
 use Rattle.std.specs.BTreeMap.{BTreeMap}
 use Rattle.std.specs.declared.alloc.Global.{Global}
 use denote.Ref.{Bor}

@@ -1,4 +1,3 @@
-use Rattle.std.proofs.Common.{List, ℕ}
 use Rattle.std.proofs.lemmas.Result.{IfOk-weaker}
 use Rattle.proxy_cmd.specs.Output.{WasRead}
 use Rattle.proxy_cmd.proofs.Ends.{means_served, stops_read}

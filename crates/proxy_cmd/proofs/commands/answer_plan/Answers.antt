@@ -1,6 +1,4 @@
-use Rattle.std.proofs.Common.{map}
-use Rattle.proxy_cmd.specs.Seen.{router_def, service_def}
-use Rattle.proxy_cmd.specs.Output.{WasRead, answered}
+use Rattle.proxy_cmd.specs.Output.{answered}
 use Rattle.proxy_cmd.proofs.commands.answer_plan.Goals as goal
 
 pub returns-in_ok-answer_input-in-Ok-clause-told : goal.returns-in_ok-answer_input-in-Ok-clause-told

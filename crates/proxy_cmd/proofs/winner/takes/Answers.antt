@@ -1,4 +1,3 @@
-use Rattle.std.proofs.Common.{List, ℕ, sym}
 use Rattle.proxy_cmd.proofs.Winners.{prefix_is}
 use Rattle.proxy_cmd.proofs.winner.takes.Goals as goal
 

@@ -1,4 +1,4 @@
-use Rattle.std.proofs.Common.{List, ℕ, [], ◌∷◌, map, sym, ap, ◌∙◌, string_bytes, codes}
+use Rattle.std.proofs.Common.{[], ◌∷◌, map, sym, ap, ◌∙◌, string_bytes, codes}
 use Rattle.std.proofs.lemmas.Slice.Eq.{bytes_eq-Decides}
 use Rattle.proxy_cmd.proofs.Ends.{two_words, route_words}
 use Rattle.proxy_cmd.proofs.words.is_route.Goals as goal
