@@ -1,0 +1,5 @@
+pub mod formers
+pub mod Table
+pub mod Trees
+pub mod Texts
+pub mod Values

@@ -1,0 +1,16 @@
+//! A tree of named values, as a configuration text gives them before anyone knows what they mean.
+#![tactic(auto)]
+
+mod fault;
+mod fields;
+#[cfg(test)]
+mod tests;
+mod texts;
+mod tree;
+mod values;
+
+pub use fault::ValueFault;
+pub use fields::Fields;
+pub use texts::{read_flag, read_number};
+pub use tree::{Tree, find};
+pub use values::Style;
