@@ -14,7 +14,7 @@ use Rattle.field_tree.specs.Texts.{are_digits, digits_of}
 abbrev is_digit : ℕ → Bool
 is_digit byte = nat_lt (digit_value byte) 10
 
-and_parts : (a b : Bool) → (a && b) ≡ true → (a ≡ true) × (b ≡ true)
+pub and_parts : (a b : Bool) → (a && b) ≡ true → (a ≡ true) × (b ≡ true)
 and_parts true true e = (refl, refl)
 and_parts true false e = (refl, e)
 and_parts false b e = absurd (cc)

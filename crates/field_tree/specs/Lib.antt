@@ -3,3 +3,5 @@ pub mod Table
 pub mod Trees
 pub mod Texts
 pub mod Values
+pub mod Durations
+pub mod Keys

@@ -1,9 +1,9 @@
 //! The tree.
 
-ghost use Rattle.std.specs.Prelude.{◌≡◌, ◌↔◌, Some, Contains};
+ghost use Rattle.std.specs.Prelude.{◌≡◌, ◌↔◌, Some, None, Contains, MatchOption};
 ghost use Rattle.std.specs.Option.{option_copied};
 ghost use Rattle.field_tree.specs.Table.{KeysRise, value_at};
-ghost use Rattle.field_tree.specs.Trees.{entries_of, table_of};
+ghost use Rattle.field_tree.specs.Trees.{entries_of, list_of, table_of};
 ghost use Rattle.field_tree.specs.declared.tree.Tree.{Tree};
 
 use crate::Fields;
@@ -24,6 +24,20 @@ pub enum Tree {
 }
 
 impl Tree {
+    /// The values of a list, where it is one.
+    pub fn list(&self) -> Option<&[Tree]>
+        ensures { MatchOption result (list_of self.now ≡ None) (λ values. list_of self.now ≡ Some values.now) }
+    {
+        match self {
+            Tree::Text(_) => None,
+            Tree::Num(_) => None,
+            Tree::Flag(_) => None,
+            Tree::Other => None,
+            Tree::List(values) => Some(values.as_slice()),
+            Tree::Table(_) => None,
+        }
+    }
+
     /// The table, where it is one.
     pub fn table(&self) -> Option<&Fields<Tree>>
         ensures { option_copied result ≡ table_of self.now }
