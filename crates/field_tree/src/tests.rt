@@ -6,6 +6,7 @@ use crate::{
 use px_base::{Bytes, Memory};
 use std::alloc::Global;
 use std::cmp::Ordering;
+use std::process::Abort;
 use std::test::Fail;
 
 fn text(alloc: Global, text: &[u8]) -> Result<Tree, Memory> {
@@ -22,6 +23,8 @@ fn keys_and_texts(rt: HostRuntime) -> Result<(), Fail> {
     assert_eq!(rt; fields.len(), 3);
     assert!(rt; !fields.is_empty());
     let tree = Tree::Table(fields);
+    assert!(rt; tree.table().is_some());
+    assert!(rt; tree.list().is_none());
 
     let upper = find(&tree, b"B").ok_or("B")?;
     assert_eq!(rt; upper.number(Style::Typed), Ok(1));
@@ -34,45 +37,20 @@ fn keys_and_texts(rt: HostRuntime) -> Result<(), Fail> {
     assert_eq!(rt; flag.flag(Style::Typed), Ok(true));
     assert!(rt; find(&tree, b"A").is_none());
     assert!(rt; find(lower, b"b").is_none());
+    Ok(())
+}
 
-    assert!(rt; text(alloc, b"true")?.stands_for_empty());
-    assert!(rt; text(alloc, b"")?.stands_for_empty());
-    assert!(rt; !lower.stands_for_empty());
-    assert!(rt; tree.table().is_some());
-    assert!(rt; tree.list().is_none());
+#[test]
+fn spelled_values(rt: HostRuntime) -> Result<(), Fail> {
+    numbers(&rt);
+    times(&rt);
+    orders(&rt);
 
-    assert_eq!(rt; read_number(b"-"), Err(ValueFault::Kind));
-    assert_eq!(rt; read_number(b""), Err(ValueFault::Kind));
-    assert_eq!(rt; read_number(b"+1"), Err(ValueFault::Kind));
-    assert_eq!(rt; read_number(b"007"), Ok(7));
-    assert_eq!(rt; read_number(b"-0"), Ok(0));
-    assert_eq!(rt; read_number(b"9223372036854775807"), Ok(i64::MAX));
-    assert_eq!(rt; read_number(b"9223372036854775808"), Err(ValueFault::Range));
-    assert_eq!(rt; read_number(b"-9223372036854775808"), Ok(i64::MIN));
-    assert_eq!(rt;
-        read_number(b"-9223372036854775809"),
-        Err(ValueFault::Range)
-    );
-    assert_eq!(rt; read_number(b"00000000000000000001"), Err(ValueFault::Kind));
-    assert_eq!(rt; read_flag(b"true"), Ok(true));
-    assert_eq!(rt; read_flag(b"false"), Ok(false));
-    assert_eq!(rt; read_flag(b"True"), Err(ValueFault::Kind));
-
-    assert_eq!(rt; read_duration(b"1m30s"), Ok(90_000));
-    assert_eq!(rt; read_duration(b"1ms1m1s"), Ok(61_001));
-    assert_eq!(rt; read_duration(b"24h"), Ok(86_400_000));
-    assert_eq!(rt; read_duration(b"0h0024h0ms"), Ok(86_400_000));
-    assert_eq!(rt; read_duration(b"24h1ms"), Err(ValueFault::Range));
-    assert_eq!(rt;
-        read_duration(b"99999999999999999999h"),
-        Err(ValueFault::Range)
-    );
-    assert_eq!(rt; read_duration(b"0s"), Err(ValueFault::Range));
-    assert_eq!(rt; read_duration(b"30"), Err(ValueFault::Range));
-    assert_eq!(rt; read_duration(b"1s2"), Err(ValueFault::Range));
-    assert_eq!(rt; read_duration(b"s"), Err(ValueFault::Range));
-    assert_eq!(rt; read_duration(b"1.5s"), Err(ValueFault::Range));
-    assert_eq!(rt; read_duration(b""), Err(ValueFault::Range));
+    let alloc = rt.alloc();
+    let thirty = text(alloc, b"30")?;
+    assert_eq!(rt; thirty.duration(Style::Texts), Ok(30_000));
+    assert_eq!(rt; thirty.duration(Style::Typed), Err(ValueFault::Range));
+    assert!(rt; !thirty.stands_for_empty());
     assert_eq!(rt; Tree::Num(30).duration(Style::Typed), Ok(30_000));
     assert_eq!(rt;
         Tree::Num(86_401).duration(Style::Typed),
@@ -80,17 +58,64 @@ fn keys_and_texts(rt: HostRuntime) -> Result<(), Fail> {
     );
     let half = text(alloc, b"500ms")?;
     assert_eq!(rt; half.duration(Style::Typed), Ok(500));
-    assert_eq!(rt; text(alloc, b"30")?.duration(Style::Texts), Ok(30_000));
-    assert_eq!(rt;
-        text(alloc, b"30")?.duration(Style::Typed),
-        Err(ValueFault::Range)
-    );
-    assert_eq!(rt; Tree::Other.duration(Style::Typed), Err(ValueFault::Kind));
-
-    assert_eq!(rt; walk_order(b"Rule", b"rule"), Ordering::Less);
-    assert_eq!(rt; walk_order(b"rule", b"Service"), Ordering::Less);
-    assert_eq!(rt; walk_order(b"Service", b"rule"), Ordering::Greater);
-    assert_eq!(rt; walk_order(b"tls", b"tls"), Ordering::Equal);
-    assert_eq!(rt; walk_order(b"TLS", b"tlsx"), Ordering::Less);
+    assert!(rt; text(alloc, b"true")?.stands_for_empty());
     Ok(())
+}
+
+fn numbers(rt: &impl Abort) {
+    let numbers = [
+        ("-", Err(ValueFault::Kind)),
+        ("", Err(ValueFault::Kind)),
+        ("+1", Err(ValueFault::Kind)),
+        ("007", Ok(7)),
+        ("-0", Ok(0)),
+        ("9223372036854775807", Ok(i64::MAX)),
+        ("9223372036854775808", Err(ValueFault::Range)),
+        ("-9223372036854775808", Ok(i64::MIN)),
+        ("-9223372036854775809", Err(ValueFault::Range)),
+        ("00000000000000000001", Err(ValueFault::Kind)),
+    ];
+    for (text, number) in numbers {
+        assert_eq!(rt; read_number(text.as_bytes()), number);
+    }
+    let flags = [
+        ("true", Ok(true)),
+        ("false", Ok(false)),
+        ("True", Err(ValueFault::Kind)),
+    ];
+    for (text, flag) in flags {
+        assert_eq!(rt; read_flag(text.as_bytes()), flag);
+    }
+}
+
+fn times(rt: &impl Abort) {
+    let times = [
+        ("1m30s", Ok(90_000)),
+        ("1ms1m1s", Ok(61_001)),
+        ("0h0024h0ms", Ok(86_400_000)),
+        ("24h1ms", Err(ValueFault::Range)),
+        ("99999999999999999999h", Err(ValueFault::Range)),
+        ("0s", Err(ValueFault::Range)),
+        ("30", Err(ValueFault::Range)),
+        ("1s2", Err(ValueFault::Range)),
+        ("s", Err(ValueFault::Range)),
+        ("1.5s", Err(ValueFault::Range)),
+        ("", Err(ValueFault::Range)),
+    ];
+    for (text, time) in times {
+        assert_eq!(rt; read_duration(text.as_bytes()), time);
+    }
+}
+
+fn orders(rt: &impl Abort) {
+    let orders = [
+        ("Rule", "rule", Ordering::Less),
+        ("rule", "Service", Ordering::Less),
+        ("Service", "rule", Ordering::Greater),
+        ("tls", "tls", Ordering::Equal),
+        ("TLS", "tlsx", Ordering::Less),
+    ];
+    for (a, b, order) in orders {
+        assert_eq!(rt; walk_order(a.as_bytes(), b.as_bytes()), order);
+    }
 }
