@@ -1,0 +1,4 @@
+pub mod Tables
+pub mod Digits
+pub mod Parts
+pub mod Folds

@@ -1,0 +1,7 @@
+pub mod formers
+pub mod Table
+pub mod Trees
+pub mod Texts
+pub mod Values
+pub mod Durations
+pub mod Keys
