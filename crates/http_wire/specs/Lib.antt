@@ -1,2 +1,5 @@
+pub mod Fields
+pub mod Framing
 pub mod Own
+pub mod Replies
 pub mod Spelling

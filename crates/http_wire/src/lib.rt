@@ -1,12 +1,18 @@
 //! Whole messages of HTTP/1.1: requests and replies as values, and how they are spelled.
 #![tactic(auto)]
 
+mod fields;
+mod framing;
 mod message;
 mod own;
+mod replies;
 mod spell;
+#[cfg(test)]
+mod taken_tests;
 #[cfg(test)]
 mod tests;
 
 pub use message::{Line, Reply, Request};
 pub use own::{own_content, own_reply};
+pub use replies::{ReplyFault, ReplyRefused, is_interim_status, take_reply};
 pub use spell::{spell_reply, spell_request};

@@ -1,0 +1,190 @@
+//! The field lines of a head that lies in a buffer (RFC 9110 section 5).
+ghost use Rattle.std.specs.Prelude.{◌≡◌, ◌≢◌, ◌↔◌, ◌++◌, ◌∷◌, ◌<◌, [], List, false, ℕ, All, IsTrue, IfOk, MatchOption, length, map, filter};
+ghost use Rattle.std.specs.List.{list_all, list_any};
+ghost use Rattle.std.specs.Str.{str_eq_ignore_ascii_case};
+ghost use Rattle.httparse.specs.Spans.{IsHeaderWithin, header_bytes};
+ghost use Rattle.head_view.specs.Lines.{AreWithin, lines_at, has_name, values_of};
+ghost use Rattle.http_wire.specs.Fields.{field_of, is_same, is_comma, trimmed, elements, lists, is_listed, is_hop_by_hop, goes_on};
+
+use crate::message::Line;
+use httparse::spans::HeaderSpan;
+use px_base::{Bytes, Memory, fold_equal};
+use std::alloc::Global;
+
+/// Whether the line has this name, without case.
+pub(crate) fn is_named(buf: &[u8], line: &HeaderSpan, name: &[u8]) -> bool
+    requires { IsHeaderWithin (length buf.now) line.now }
+    ensures { result ≡ has_name name.now (header_bytes buf.now line.now) }
+{
+    fold_equal(line.name.of(buf), name)
+}
+
+/// The value of the first line with this name.
+pub(crate) fn first_value<'a>(buf: &'a [u8], lines: &[HeaderSpan], name: &[u8]) -> Option<&'a [u8]>
+    requires { AreWithin buf.now lines.now }
+    ensures { MatchOption result
+        (values_of name.now (lines_at buf.now lines.now) ≡ [])
+        (λ v. (more : List (List ℕ)) × (values_of name.now (lines_at buf.now lines.now) ≡ v.now ∷ more)) }
+{
+    for line in lines {
+        if is_named(buf, line, name) {
+            return Some(line.value.of(buf));
+        }
+    }
+    None
+}
+
+/// The value of the last line with this name.
+pub(crate) fn last_value<'a>(buf: &'a [u8], lines: &[HeaderSpan], name: &[u8]) -> Option<&'a [u8]>
+    requires { AreWithin buf.now lines.now }
+    ensures { MatchOption result
+        (values_of name.now (lines_at buf.now lines.now) ≡ [])
+        (λ v. (front : List (List ℕ)) × (values_of name.now (lines_at buf.now lines.now) ≡ front ++ v.now ∷ [])) }
+{
+    let mut found = None;
+    for line in lines {
+        if is_named(buf, line, name) {
+            found = Some(line.value.of(buf));
+        }
+    }
+    found
+}
+
+/// The value of the only line with this name.
+pub(crate) fn only_value<'a>(buf: &'a [u8], lines: &[HeaderSpan], name: &[u8]) -> Option<&'a [u8]>
+    requires { AreWithin buf.now lines.now }
+    ensures { MatchOption result
+        ((v : List ℕ) → values_of name.now (lines_at buf.now lines.now) ≢ v ∷ [])
+        (λ v. values_of name.now (lines_at buf.now lines.now) ≡ v.now ∷ []) }
+{
+    let mut found = None;
+    for line in lines {
+        if is_named(buf, line, name) {
+            if found.is_some() {
+                return None;
+            }
+            found = Some(line.value.of(buf));
+        }
+    }
+    found
+}
+
+/// Whether no line has this name.
+pub(crate) fn has_none(buf: &[u8], lines: &[HeaderSpan], name: &[u8]) -> bool
+    requires { AreWithin buf.now lines.now }
+    ensures { IsTrue result ↔ (values_of name.now (lines_at buf.now lines.now) ≡ []) }
+{
+    first_value(buf, lines, name).is_none()
+}
+
+/// Whether each line with this name has this value.
+pub(crate) fn has_only(buf: &[u8], lines: &[HeaderSpan], name: &[u8], value: &[u8]) -> bool
+    requires { AreWithin buf.now lines.now }
+    ensures { result ≡ list_all (λ v. is_same v value.now) (values_of name.now (lines_at buf.now lines.now)) }
+{
+    for line in lines {
+        if is_named(buf, line, name) && line.value.of(buf) != value {
+            return false;
+        }
+    }
+    true
+}
+
+/// The text without the blanks round it.
+pub(crate) fn trim(text: &[u8]) -> &[u8]
+    ensures { result.now ≡ trimmed text.now }
+{
+    text.trim_ascii()
+}
+
+/// Whether the line goes on, among these: it is no matter of one connection alone (RFC 9110
+/// section 7.6.1).
+pub(crate) fn does_go_on(buf: &[u8], lines: &[HeaderSpan], line: &HeaderSpan) -> bool
+    requires all { AreWithin buf.now lines.now }
+    requires one { IsHeaderWithin (length buf.now) line.now }
+    ensures { result ≡ goes_on (lines_at buf.now lines.now) (header_bytes buf.now line.now) }
+{
+    !is_of_one_hop(buf, line) && !is_in_connection(buf, lines, line.name.of(buf))
+}
+
+fn is_of_one_hop(buf: &[u8], line: &HeaderSpan) -> bool
+    requires { IsHeaderWithin (length buf.now) line.now }
+    ensures { result ≡ is_hop_by_hop (header_bytes buf.now line.now) }
+{
+    is_named(buf, line, b"Connection")
+        || is_named(buf, line, b"Keep-Alive")
+        || is_named(buf, line, b"Proxy-Connection")
+        || is_named(buf, line, b"TE")
+        || is_named(buf, line, b"Trailer")
+        || is_named(buf, line, b"Transfer-Encoding")
+        || is_named(buf, line, b"Upgrade")
+}
+
+/// Whether a `Connection` line lists this name, without case.
+pub(crate) fn is_in_connection(buf: &[u8], lines: &[HeaderSpan], name: &[u8]) -> bool
+    requires { AreWithin buf.now lines.now }
+    ensures { result ≡ is_listed (lines_at buf.now lines.now) name.now }
+{
+    for line in lines {
+        if is_named(buf, line, b"Connection") && is_among(line.value.of(buf), name) {
+            return true;
+        }
+    }
+    false
+}
+
+// Whether the list has this name as an element, without case.
+fn is_among(text: &[u8], name: &[u8]) -> bool
+    ensures { result ≡ lists name.now text.now }
+{
+    text.split(|b| *b == b',')
+        .any(|part| is_element(part, name))
+}
+
+fn is_element(part: &[u8], name: &[u8]) -> bool
+    ensures { result ≡ str_eq_ignore_ascii_case (trimmed part.now) name.now }
+{
+    fold_equal(trim(part), name)
+}
+
+/// The last element of a list, without the blanks round it.
+pub(crate) fn last_element(text: &[u8]) -> &[u8]
+    ensures { (front : List (List ℕ)) × (elements text.now ≡ front ++ result.now ∷ []) }
+{
+    let mut left = text;
+    while let Some(rest) = after_comma(left) {
+        left = rest;
+    }
+    trim(left)
+}
+
+/// What stands after the first comma of a list; none where the list has one element.
+pub(crate) fn after_comma(text: &[u8]) -> Option<&[u8]>
+    ensures { MatchOption result
+        (elements text.now ≡ trimmed text.now ∷ [])
+        (λ rest. (first : List ℕ) × (elements text.now ≡ first ∷ elements rest.now) × (length rest.now < length text.now)) }
+{
+    match cut_at_comma(text) {
+        Some((_, rest)) => Some(rest),
+        None => None,
+    }
+}
+
+fn cut_at_comma(text: &[u8]) -> Option<(&[u8], &[u8])>
+    ensures { MatchOption result
+        (All (λ b. is_comma b ≡ false) text.now)
+        (λ parts. (text.now ≡ parts.0.now ++ 44 ∷ parts.1.now) × All (λ b. is_comma b ≡ false) parts.0.now) }
+{
+    let at = text.iter().position(|b| *b == b',')?;
+    Some((&text[..at], &text[at + 1..]))
+}
+
+/// A copy of the line.
+pub(crate) fn line_at(alloc: Global, buf: &[u8], line: &HeaderSpan) -> Result<Line, Memory>
+    requires { IsHeaderWithin (length buf.now) line.now }
+    ensures { IfOk result (λ l. field_of l ≡ header_bytes buf.now line.now) }
+{
+    let name = Bytes::from_slice(alloc, line.name.of(buf))?;
+    let value = Bytes::from_slice(alloc, line.value.of(buf))?;
+    Ok(Line { name, value })
+}
