@@ -1,7 +1,7 @@
 -- The normal form of a path.
 use Rattle.std.specs.Prelude.{◌≡◌, ◌≢◌, ℕ, ◌<◌, List, [], ◌∷◌, length, map}
 use Rattle.std.specs.List.{AllByRecursion}
-use Rattle.path_norm.specs.Escapes.{Piece, AreSegment, segment_text, segment_written, slash, IsFirstBadEscape}
+use Rattle.path_norm.specs.Escapes.{Piece, AreSegment, segment_text, segment_written, slash, HasWholeEscapes, IsFirstBadEscape}
 use Rattle.path_norm.specs.Dots.{path_of, without_dots}
 use Rattle.path_norm.specs.declared.normal.PathFault.{PathFault}
 use Rattle.path_norm.specs.declared.normal.PathFault.TheVariants.{BadEscape, Memory}
@@ -34,7 +34,7 @@ pub record HasNoDots (path : List ℕ) : Type 0 where
   pub no_dots : AllByRecursion IsNoDots segments
   pub path_is : path ≡ path_of segments
 
--- a bad escape is told at the first one; want of memory says nothing of the path
+-- a bad escape is told at the first one, and before want of memory
 abbrev pub IsFaultOf : List ℕ → PathFault → Type 0
 IsFaultOf path (BadEscape at) = IsFirstBadEscape path at
-IsFaultOf path Memory = Unit {0}
+IsFaultOf path Memory = HasWholeEscapes path

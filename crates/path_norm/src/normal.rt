@@ -12,7 +12,7 @@ use super::segments::{add_segment, cut_segment};
 pub enum PathFault {
     /// The first `%` without two hexadecimal digits after it.
     BadEscape { at: usize },
-    /// No memory for the normal form.
+    /// No memory for the normal form of a path whose escapes are whole.
     Memory,
 }
 
