@@ -1,0 +1,5 @@
+pub mod Runs
+pub mod Residuals
+pub mod Reaches
+pub mod Continuations
+pub mod Spelling

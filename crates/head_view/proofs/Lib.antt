@@ -1,0 +1,4 @@
+pub mod Hosts
+pub mod LineFeeds
+pub mod Slashes
+pub mod Values

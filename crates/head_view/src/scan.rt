@@ -1,0 +1,60 @@
+//! The request head at the front of a buffer (RFC 9112 sections 2 to 5).
+ghost use Rattle.std.specs.Prelude.{◌↔◌, ◌<◌, length};
+ghost use Rattle.httparse.specs.Grammar.{NeverHasRequest, MayBecomeRequest};
+ghost use Rattle.head_view.specs.Lines.{line_feeds};
+ghost use Rattle.head_view.specs.Scans.{IfWhole, IsWhole, OnPart, OnBad, OnTooMany, IsHeadWithin, AreHeadSpans, HasHead, FindsHead};
+
+use httparse::spans::{HeaderSpan, Span, parse_request};
+use httparse::{Error, Status};
+
+/// Where the parts of a request's head lie.
+#[derive(Clone, Copy, Debug, PartialEq, Eq)]
+pub struct HeadSpans {
+    pub method: Span,
+    pub target: Span,
+    /// The minor version: 1 for `HTTP/1.1`.
+    pub version: u8,
+    /// How many field lines were found.
+    pub lines: usize,
+    /// The length of the head in bytes, with its last empty line.
+    pub len: usize,
+}
+
+/// What a scan of a buffer found at its front.
+#[derive(Clone, Copy, Debug, PartialEq, Eq)]
+pub enum Scan {
+    /// A whole head.
+    Whole(HeadSpans),
+    /// A part of a head: more bytes may make it whole.
+    Part,
+    /// No head, whatever bytes follow.
+    Bad,
+    /// More field lines than the room has places.
+    TooMany,
+}
+
+/// Finds the request head at the front of `buf`, and writes where its field lines lie to `room`.
+pub fn scan_request(buf: &[u8], room: &mut [HeaderSpan]) -> Scan
+    ensures within { IfWhole result (IsHeadWithin buf.now room.new) }
+    ensures whole { IfWhole result (AreHeadSpans (length room.old) buf.now room.new) }
+    ensures found { IsWhole result ↔ HasHead (length room.old) buf.now }
+    // Whichever way the front is read as a head that fits, that head is the one found.
+    ensures same { FindsHead (length room.old) buf.now room.new result }
+    ensures bad { OnBad result (NeverHasRequest buf.now) }
+    ensures too_many { OnTooMany result
+        ((¬ (HasHead (length room.old) buf.now)) × (length room.old < line_feeds buf.now)) }
+    ensures part { OnPart result (MayBecomeRequest buf.now) }
+{
+    match parse_request(buf, room) {
+        Ok(Status::Complete(spans)) => Scan::Whole(HeadSpans {
+            method: spans.method,
+            target: spans.path,
+            version: spans.version,
+            lines: spans.headers,
+            len: spans.len,
+        }),
+        Ok(Status::Partial) => Scan::Part,
+        Err(Error::TooManyHeaders) => Scan::TooMany,
+        Err(_) => Scan::Bad,
+    }
+}

@@ -1,0 +1,11 @@
+pub mod Earliest
+pub mod Pops
+pub mod Totals
+pub mod Periods
+pub mod Repeats
+pub mod Ratios
+pub mod Divisors
+pub mod Periodic
+pub mod Picks
+pub mod States
+pub mod Steps

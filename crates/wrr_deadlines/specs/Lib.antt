@@ -1,0 +1,7 @@
+pub mod Schedule
+pub mod Turn
+pub mod Reduced
+pub mod Laws
+pub mod Choice
+pub mod Progress
+pub mod Counted
