@@ -3,7 +3,7 @@ ghost use Rattle.std.specs.Prelude.{◌≡◌, ◌≢◌, ◌≤◌, ◌<◌, �
 ghost use Rattle.std.specs.List.{AllByRecursion};
 ghost use Rattle.rule_lang.specs.Matchers.{TakesCount, TakesKey, TakesValue, IsToken, is_token_byte as is_byte_of_token, AreLineBytes, IsHostText, IsRooted};
 
-use super::Matcher;
+use super::whole::Matcher;
 
 /// Whether a call of this matcher may have so many values.
 pub fn takes_count(matcher: Matcher, count: usize) -> bool
@@ -48,10 +48,8 @@ pub fn takes_value(matcher: Matcher, value: &[u8]) -> bool
         Matcher::Host => is_host_text(value),
         Matcher::Method => is_token(value),
         Matcher::Path | Matcher::PathPrefix => is_rooted(value),
-        Matcher::HeaderRegexp
-        | Matcher::HostRegexp
-        | Matcher::PathRegexp
-        | Matcher::QueryRegexp => value.len() <= 512,
+        Matcher::HeaderRegexp | Matcher::HostRegexp | Matcher::PathRegexp | Matcher::QueryRegexp =>
+            value.len() <= 512,
         Matcher::Query => true,
         Matcher::ClientIp => !value.is_empty() && value.len() <= 64,
     }
@@ -78,7 +76,8 @@ fn is_token_byte(byte: u8) -> bool
 fn are_line_bytes(text: &[u8]) -> bool
     ensures { IsTrue result ↔ AreLineBytes text.now }
 {
-    text.iter().all(|byte| *byte != 0 && *byte != b'\n' && *byte != b'\r')
+    text.iter()
+        .all(|byte| *byte != 0 && *byte != b'\n' && *byte != b'\r')
 }
 
 fn is_host_text(text: &[u8]) -> bool

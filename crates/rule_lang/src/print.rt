@@ -4,7 +4,8 @@ ghost use Rattle.std.specs.List.{list_any};
 ghost use Rattle.rule_lang.specs.Trees.{tree_of};
 ghost use Rattle.rule_lang.specs.Prints.{rule_print, print_at as print_there, call_print, values_print, pair_print, value_print, escaped, and_is_bare, or_is_bare};
 
-use super::{Leaf, Matcher, Memory, Rule, name_of};
+use super::whole::{Leaf, Matcher, Rule, name_of};
+use px_base::Memory;
 
 /// Which operand may stand at a place without parentheses.
 #[derive(Clone, Copy, Debug, PartialEq, Eq)]
@@ -92,7 +93,12 @@ fn print_call(leaf: &Leaf, out: &mut Vec<u8>) -> Result<(), Memory>
 {
     out.extend_from_slice(name_of(leaf.matcher))?;
     out.push(b'(')?;
-    print_values(leaf.matcher, leaf.key.as_slice(), leaf.value.as_slice(), out)?;
+    print_values(
+        leaf.matcher,
+        leaf.key.as_slice(),
+        leaf.value.as_slice(),
+        out,
+    )?;
     out.push(b')')?;
     Ok(())
 }
@@ -101,7 +107,9 @@ fn print_values(matcher: Matcher, key: &[u8], value: &[u8], out: &mut Vec<u8>) -
     ensures { OnOk result (out.new.items ≡ out.old.items ++ values_print matcher key.now value.now) }
 {
     match matcher {
-        Matcher::Header | Matcher::HeaderRegexp | Matcher::QueryRegexp => print_pair(key, value, out),
+        Matcher::Header | Matcher::HeaderRegexp | Matcher::QueryRegexp => print_pair(
+            key, value, out,
+        ),
         Matcher::Query => match value {
             [] => print_value(key, out),
             _ => print_pair(key, value, out),

@@ -1,5 +1,10 @@
 //! Texts of rules and their tokens.
-use super::{LexFault, Token, TokenKind, read_tokens};
+use super::whole::{
+    Leaf, LexFault, Matcher, Rule, Token, TokenKind, matcher_named, print_rule, read_tokens,
+    takes_count, takes_key, takes_value,
+};
+use px_base::Bytes;
+use sqlite_items::Boxed;
 use std::alloc::Global;
 use std::process::Abort;
 use std::test::Fail;
@@ -84,5 +89,58 @@ fn texts(rt: HostRuntime) -> Result<(), Fail> {
     expect_fault(&rt, alloc, b"Host(\"a\\n\")", 7);
     expect_fault(&rt, alloc, b"Host(\"a\\n", 5);
     expect_fault(&rt, alloc, b"Host(\"a\\", 5);
+    Ok(())
+}
+
+fn call(alloc: Global, matcher: Matcher, key: &[u8], value: &[u8]) -> Result<Rule, Fail> {
+    let key = Bytes::from_slice(alloc, key)?;
+    let value = Bytes::from_slice(alloc, value)?;
+    Ok(Rule::Leaf(Leaf {
+        matcher,
+        key,
+        value,
+    }))
+}
+
+fn boxed(alloc: Global, rule: Rule) -> Result<Boxed<Rule>, Fail> {
+    Ok(Boxed::new(alloc, rule)?)
+}
+
+#[test]
+fn prints(rt: HostRuntime) -> Result<(), Fail> {
+    let alloc = rt.alloc();
+    let host = call(alloc, Matcher::Host, b"", b"a")?;
+    let path = call(alloc, Matcher::Path, b"", b"/x")?;
+    let method = boxed(alloc, call(alloc, Matcher::Method, b"", b"get")?)?;
+    let and = Rule::And(boxed(alloc, path)?, boxed(alloc, Rule::Not(method))?);
+    let or = Rule::Or(boxed(alloc, host)?, boxed(alloc, and)?);
+    let mut out = Vec::new(alloc);
+    print_rule(&or, &mut out)?;
+    assert_eq!(rt;
+        out.as_slice(),
+        b"Host(`a`) || Path(`/x`) && !Method(`get`)".as_slice()
+    );
+    let query = boxed(alloc, call(alloc, Matcher::Query, b"k", b"")?)?;
+    let header = boxed(alloc, call(alloc, Matcher::Header, b"k", b"`\"\\")?)?;
+    let nested = Rule::And(query, boxed(alloc, Rule::And(header, boxed(alloc, or)?))?);
+    out.clear();
+    print_rule(&nested, &mut out)?;
+    let text =
+        b"Query(`k`) && (Header(`k`, \"`\\\"\\\\\") && (Host(`a`) || Path(`/x`) && !Method(`get`)))";
+    assert_eq!(rt; out.as_slice(), text.as_slice());
+    Ok(())
+}
+
+#[test]
+fn matchers(rt: HostRuntime) -> Result<(), Fail> {
+    assert!(rt; matcher_named(b"clientip") == Some(Matcher::ClientIp));
+    assert!(rt; matcher_named(b"Foo").is_none());
+    assert!(rt;
+        takes_count(Matcher::Query, 1)
+            && takes_count(Matcher::Query, 2)
+            && !takes_count(Matcher::Header, 1)
+    );
+    assert!(rt; takes_key(Matcher::Header, b"X-A") && !takes_key(Matcher::Header, b"X A"));
+    assert!(rt; takes_value(Matcher::Path, b"/x") && !takes_value(Matcher::Path, b"x"));
     Ok(())
 }

@@ -1,6 +1,6 @@
 //! Laws of the schedule, each the contract of a function that does nothing.
 
-ghost use Rattle.std.specs.Prelude.{◌≡◌, ℕ, ◌+◌, ◌*◌, ◌≤◌, List};
+ghost use Rattle.std.specs.Prelude.{◌≡◌, ℕ, ◌+◌, ◌*◌, ◌<◌, ◌≤◌, List};
 ghost use Rattle.wrr_deadlines.specs.Schedule.{weight_of, IsWeighted, times_popped, IsEarliestDeadline, HaveRatio};
 ghost use Rattle.wrr_deadlines.specs.Turn.{first_pops, popped_child};
 ghost use Rattle.wrr_deadlines.specs.Reduced.{common_divisor, share_of, period_len};
@@ -24,6 +24,7 @@ pub fn repeats_with_the_period()
         ≡ times_popped (first_pops ws n) i + share_of ws i }
     ensures whole { (ws : List ℕ) (i : ℕ) → IsWeighted ws
         → weight_of ws i ≡ share_of ws i * common_divisor ws }
+    ensures some { (ws : List ℕ) → IsWeighted ws → 0 < period_len ws }
     ensures none { (ws : List ℕ) → ¬ (IsWeighted ws) → period_len ws ≡ 0 }
 {}
 

@@ -50,7 +50,8 @@ impl Period {
 
     /// The number of pops after which the schedule repeats, and 0 where no weight is positive.
     pub fn len(&self) -> u64
-        ensures { result ≡ period_len self.now }
+        ensures exact { result ≡ period_len self.now }
+        ensures short { result ≤ 65536 }
     {
         self.pops.len() as u64
     }
