@@ -1,6 +1,17 @@
 //! The text of a rule, which says what requests a router takes.
 #![tactic(auto)]
 
+mod check;
+mod law;
 mod leaf;
+mod lex;
+mod matcher;
+mod print;
+mod rule;
+mod scan;
+#[cfg(test)]
+mod tests;
+mod token;
+pub mod whole;
 
 pub use leaf::{Leaf, Matcher, read_leaf};

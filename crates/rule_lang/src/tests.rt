@@ -1,0 +1,147 @@
+//! Texts of rules and their tokens.
+use super::whole::{
+    Leaf, LexFault, Matcher, Rule, Token, TokenKind, matcher_named, print_rule, read_tokens,
+    takes_count, takes_key, takes_value,
+};
+use px_base::Bytes;
+use sqlite_items::Boxed;
+use std::alloc::Global;
+use std::process::Abort;
+use std::test::Fail;
+
+fn expect_fault(rt: &impl Abort, alloc: Global, text: &[u8], at: usize) {
+    let read = read_tokens(alloc, text);
+    assert!(rt; matches!(read, Err(LexFault::Lex { at: place }) if place == at));
+}
+
+fn expect_tokens(
+    rt: &impl Abort,
+    alloc: Global,
+    text: &[u8],
+    tokens: &[Token],
+) -> Result<(), Fail> {
+    let Ok(read) = read_tokens(alloc, text) else {
+        return Err(Fail::from("no tokens"));
+    };
+    assert_eq!(rt; read.as_slice(), tokens);
+    Ok(())
+}
+
+#[test]
+fn texts(rt: HostRuntime) -> Result<(), Fail> {
+    let alloc = rt.alloc();
+    expect_tokens(&rt, alloc, b" \t\r\n", &[])?;
+    expect_tokens(
+        &rt,
+        alloc,
+        b"!Host(`a`, \"b\\\"\") ||\n(",
+        &[
+            Token {
+                kind: TokenKind::Not,
+                start: 0,
+                end: 1,
+            },
+            Token {
+                kind: TokenKind::Name,
+                start: 1,
+                end: 5,
+            },
+            Token {
+                kind: TokenKind::Open,
+                start: 5,
+                end: 6,
+            },
+            Token {
+                kind: TokenKind::Raw,
+                start: 6,
+                end: 9,
+            },
+            Token {
+                kind: TokenKind::Comma,
+                start: 9,
+                end: 10,
+            },
+            Token {
+                kind: TokenKind::Quoted,
+                start: 11,
+                end: 16,
+            },
+            Token {
+                kind: TokenKind::Close,
+                start: 16,
+                end: 17,
+            },
+            Token {
+                kind: TokenKind::Or,
+                start: 18,
+                end: 20,
+            },
+            Token {
+                kind: TokenKind::Open,
+                start: 21,
+                end: 22,
+            },
+        ],
+    )?;
+    expect_fault(&rt, alloc, b"Host('a')", 5);
+    expect_fault(&rt, alloc, b"a & b", 2);
+    expect_fault(&rt, alloc, b"Host(`a", 5);
+    expect_fault(&rt, alloc, b"Host(\"a\\n\")", 7);
+    expect_fault(&rt, alloc, b"Host(\"a\\n", 5);
+    expect_fault(&rt, alloc, b"Host(\"a\\", 5);
+    Ok(())
+}
+
+fn call(alloc: Global, matcher: Matcher, key: &[u8], value: &[u8]) -> Result<Rule, Fail> {
+    let key = Bytes::from_slice(alloc, key)?;
+    let value = Bytes::from_slice(alloc, value)?;
+    Ok(Rule::Leaf(Leaf {
+        matcher,
+        key,
+        value,
+    }))
+}
+
+fn boxed(alloc: Global, rule: Rule) -> Result<Boxed<Rule>, Fail> {
+    Ok(Boxed::new(alloc, rule)?)
+}
+
+fn printed(alloc: Global, rule: &Rule) -> Result<Vec<u8>, Fail> {
+    let mut out = Vec::new(alloc);
+    print_rule(rule, &mut out)?;
+    Ok(out)
+}
+
+// Host(`a`) || Path(`/x`) && !Method(`get`)
+fn host_or_path(alloc: Global) -> Result<Rule, Fail> {
+    let host = boxed(alloc, call(alloc, Matcher::Host, b"", b"a")?)?;
+    let path = boxed(alloc, call(alloc, Matcher::Path, b"", b"/x")?)?;
+    let method = boxed(alloc, call(alloc, Matcher::Method, b"", b"get")?)?;
+    let not = boxed(alloc, Rule::Not(method))?;
+    let and = boxed(alloc, Rule::And(path, not))?;
+    Ok(Rule::Or(host, and))
+}
+
+#[test]
+fn prints(rt: HostRuntime) -> Result<(), Fail> {
+    let alloc = rt.alloc();
+    let rule = host_or_path(alloc)?;
+    let out = printed(alloc, &rule)?;
+    let text: &[u8] = b"Host(`a`) || Path(`/x`) && !Method(`get`)";
+    assert!(rt; out.as_slice() == text);
+    Ok(())
+}
+
+#[test]
+fn matchers(rt: HostRuntime) -> Result<(), Fail> {
+    assert!(rt; matcher_named(b"clientip") == Some(Matcher::ClientIp));
+    assert!(rt; matcher_named(b"Foo").is_none());
+    assert!(rt;
+        takes_count(Matcher::Query, 1)
+            && takes_count(Matcher::Query, 2)
+            && !takes_count(Matcher::Header, 1)
+    );
+    assert!(rt; takes_key(Matcher::Header, b"X-A") && !takes_key(Matcher::Header, b"X A"));
+    assert!(rt; takes_value(Matcher::Path, b"/x") && !takes_value(Matcher::Path, b"x"));
+    Ok(())
+}
