@@ -6,13 +6,16 @@ mod framing;
 mod message;
 mod own;
 mod replies;
+mod requests;
 mod spell;
 #[cfg(test)]
 mod taken_tests;
+mod targets;
 #[cfg(test)]
 mod tests;
 
 pub use message::{Line, Reply, Request};
 pub use own::{own_content, own_reply};
 pub use replies::{ReplyFault, ReplyRefused, is_interim_status, take_reply};
+pub use requests::{HeadFault, RequestRefused, take_request};
 pub use spell::{spell_reply, spell_request};

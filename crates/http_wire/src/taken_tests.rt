@@ -1,6 +1,10 @@
 //! Messages taken from the bytes of their heads.
-use crate::{ReplyFault, ReplyRefused, is_interim_status, spell_reply, take_reply};
-use head_view::{EMPTY_HEADER_SPAN, ReplyScan, scan_reply};
+use crate::{
+    HeadFault, ReplyFault, ReplyRefused, RequestRefused, is_interim_status, spell_reply,
+    spell_request, take_reply, take_request,
+};
+use head_view::{EMPTY_HEADER_SPAN, ReplyScan, Scan, scan_reply, scan_request};
+use ip_net::Ip;
 use std::alloc::Global;
 use std::process::Abort;
 use std::test::Fail;
@@ -145,9 +149,127 @@ fn faults(rt: &impl Abort, alloc: Global) -> Result<(), Fail> {
     )
 }
 
+// What is taken of a request with this head from 127.0.0.1, as a backend sees it; or why it isn't.
+fn request_taken(
+    rt: &impl Abort,
+    alloc: Global,
+    head: &str,
+) -> Result<Result<(Vec<u8>, bool), RequestRefused>, Fail> {
+    let buf = head.as_bytes();
+    let mut room = [EMPTY_HEADER_SPAN; 8];
+    let spans = match scan_request(buf, &mut room) {
+        Scan::Whole(spans) => spans,
+        _ => panic!(rt; "a whole head"),
+    };
+    match take_request(alloc, buf, &room, &spans, Ip::V4(0x7f000001)) {
+        Ok(request) => {
+            let mut out = Vec::new(alloc);
+            spell_request(alloc, &request, b"back:9000", true, &mut out)?;
+            Ok(Ok((out, request.keep)))
+        }
+        Err(refused) => Ok(Err(refused)),
+    }
+}
+
+// The request line and the lines of the client, with what is said of the client and the host text.
+fn expect_request(
+    rt: &impl Abort,
+    alloc: Global,
+    head: &str,
+    target: &str,
+    host: &str,
+    port: &str,
+    lines: &str,
+    framing: &str,
+    keep: bool,
+) -> Result<(), Fail> {
+    let wanted = format!(in alloc;
+        "{target} HTTP/1.1\r\nHost: {host}\r\n{lines}X-Forwarded-For: 127.0.0.1\r\nX-Forwarded-Host: {host}\r\nX-Forwarded-Port: {port}\r\nX-Forwarded-Proto: http\r\nX-Real-Ip: 127.0.0.1\r\n{framing}Connection: close\r\n\r\n"
+    )?;
+    match request_taken(rt, alloc, head)? {
+        Ok((out, kept)) => {
+            assert_eq!(rt; out.as_slice(), wanted.as_bytes());
+            assert_eq!(rt; kept, keep);
+        }
+        Err(_) => panic!(rt; "a request"),
+    }
+    Ok(())
+}
+
+fn requests(rt: &impl Abort, alloc: Global) -> Result<(), Fail> {
+    expect_request(
+        rt,
+        alloc,
+        "GET / HTTP/1.1\r\nHost: a.test\r\n\r\n",
+        "GET /",
+        "a.test",
+        "80",
+        "",
+        "",
+        true,
+    )?;
+    expect_request(
+        rt,
+        alloc,
+        "POST HTTP://a.test:81?x=%2 HTTP/1.1\r\nhost: b\r\nX-FORWARDED-FOR: 1.2.3.4\r\nA: b\r\nx-real-ip: 5\r\nConnection: close, X\r\nX: y\r\nExpect: 100-continue\r\nContent-Length: 5\r\n\r\n",
+        "POST /?x=%2",
+        "a.test:81",
+        "81",
+        "A: b\r\n",
+        "Content-Length: 5\r\n",
+        false,
+    )?;
+    expect_request(
+        rt,
+        alloc,
+        "GET /a/./%62/../c?d?e HTTP/1.0\r\nA: b\r\n\r\n",
+        "GET /a/c?d?e",
+        "",
+        "80",
+        "A: b\r\n",
+        "",
+        false,
+    )
+}
+
+fn head_faults(rt: &impl Abort, alloc: Global) -> Result<(), Fail> {
+    let rows = [
+        ("GET / HTTP/1.1\r\nA: b", HeadFault::NoHost),
+        ("GET / HTTP/1.0\r\nHost: a\r\nHost: a", HeadFault::TwoHosts),
+        (
+            "GET * HTTP/1.1\r\nHost: a\r\nContent-Length: x",
+            HeadFault::BadLength,
+        ),
+        (
+            "GET / HTTP/1.0\r\nTransfer-Encoding: chunked",
+            HeadFault::BothLengths,
+        ),
+        (
+            "GET / HTTP/1.1\r\nHost: a\r\nTransfer-Encoding: gzip, chunked",
+            HeadFault::BadCoding,
+        ),
+        ("GET * HTTP/1.1\r\nHost: a", HeadFault::BadTarget),
+        ("CONNECT / HTTP/1.1\r\nHost: a", HeadFault::BadTarget),
+        ("GET /#a HTTP/1.1\r\nHost: a", HeadFault::BadTarget),
+        ("GET / HTTP/1.1\r\nHost: a b", HeadFault::BadTarget),
+        ("GET https://a/ HTTP/1.1\r\nHost: a", HeadFault::BadTarget),
+        ("GET /%2 HTTP/1.1\r\nHost: a", HeadFault::BadEscape),
+    ];
+    for (lines, fault) in &rows {
+        let head = format!(in alloc; "{lines}\r\n\r\n")?;
+        match request_taken(rt, alloc, head.as_str())? {
+            Ok(_) => panic!(rt; "a fault"),
+            Err(refused) => assert_eq!(rt; refused, RequestRefused::Head(*fault)),
+        }
+    }
+    Ok(())
+}
+
 #[test]
 fn heads(rt: HostRuntime) -> Result<(), Fail> {
     let alloc = rt.alloc();
     replies(&rt, alloc)?;
-    faults(&rt, alloc)
+    faults(&rt, alloc)?;
+    requests(&rt, alloc)?;
+    head_faults(&rt, alloc)
 }

@@ -1,0 +1,310 @@
+//! Requests of clients, as they are taken from the bytes of their heads.
+ghost use Rattle.std.specs.Prelude.{◌≡◌, ◌≢◌, ◌⊎◌, ◌++◌, ◌∷◌, [], ℕ, List as ListOf, IsTrue, IfOk, OnOk, MatchResult, length, map, take};
+ghost use Rattle.std.specs.List.{filter};
+ghost use Rattle.std.specs.Option.{option_map};
+ghost use Rattle.httparse.specs.Spans.{IsHeaderWithin, IsWithin, header_bytes, span_bytes};
+ghost use Rattle.ip_net.specs.Texts.{ip_print};
+ghost use Rattle.path_norm.specs.Escapes.{HasWholeEscapes};
+ghost use Rattle.path_norm.specs.Normal.{IsRooted, Normalises};
+ghost use Rattle.head_view.specs.Lines.{AreWithin, lines_at};
+ghost use Rattle.head_view.specs.Scans.{IsHeadWithin};
+ghost use Rattle.http_wire.specs.Fields.{field_of};
+ghost use Rattle.http_wire.specs.Framing.{encodings_of, lengths_of, framing_by, IsFramed};
+ghost use Rattle.http_wire.specs.Targets.{path_of, query_of, is_bad_target};
+ghost use Rattle.http_wire.specs.Requests.{hosts_of, first_or_empty, host_in, HasNoHost, HasTwoHosts, IsHosted, is_forwarded, is_replaced, goes_to_backend, told_fields, lines_for_backend, keeps, IsRequestOf, IsBadTarget, IsSound, IsHeadFault, TakesRequest};
+
+use crate::fields::{does_go_on, has_none, is_in_connection, is_named, line_at, only_value};
+use crate::framing::{FramingFault, framing_of};
+use crate::message::{Line, Request};
+use crate::targets::{host_text, is_refused_target, path_in, port_in, query_in};
+use body_codec::Framing;
+use head_view::HeadSpans;
+use httparse::spans::HeaderSpan;
+use ip_net::{Ip, print_ip};
+use path_norm::{PathFault, normalise};
+use px_base::{Bytes, List, Memory, fold_equal};
+use std::alloc::Global;
+
+/// What is wrong with the head of a request.
+#[derive(Clone, Copy, Debug, PartialEq, Eq)]
+pub enum HeadFault {
+    /// The bytes are no head: a scan's answer, which no head that was found has.
+    BadHead,
+    /// Version 1.1 without `Host`.
+    NoHost,
+    /// More than one `Host`.
+    TwoHosts,
+    /// A `Content-Length` that isn't 1 to 19 digits of a value below 2^40, two that differ, or a
+    /// last coding that isn't `chunked`.
+    BadLength,
+    /// `Transfer-Encoding` beside `Content-Length`, or in version 1.0.
+    BothLengths,
+    /// A coding beside `chunked`.
+    BadCoding,
+    /// A target that neither begins with a slash nor is absolute, a byte in it or in the host text
+    /// that isn't visible or is a `#`, or the method CONNECT.
+    BadTarget,
+    /// A `%` in the path without two hexadecimal digits after it.
+    BadEscape,
+}
+
+/// Why a request isn't taken.
+#[derive(Clone, Copy, Debug, PartialEq, Eq)]
+pub enum RequestRefused {
+    Head(HeadFault),
+    Memory,
+}
+
+/// Takes the request of the client with this address from the head that a scan of `buf` found, with
+/// the room that it filled.
+///
+/// The lines that speak of the client's connection alone are left out, and what the client says of
+/// forwarding is replaced by what the proxy knows. A fault comes exactly where its condition is the
+/// first in order; only `BadEscape` is looked for with memory.
+pub fn take_request(
+    alloc: Global,
+    buf: &[u8],
+    room: &[HeaderSpan],
+    spans: &HeadSpans,
+    peer: Ip,
+) -> Result<Request, RequestRefused>
+    requires { IsHeadWithin buf.now room.now spans.now }
+    ensures { TakesRequest (span_bytes buf.now spans.now.method) (span_bytes buf.now spans.now.target) spans.now.version
+        (lines_at buf.now (take spans.now.lines room.now)) peer result }
+{
+    let lines = &room[..spans.lines];
+    taken(
+        alloc,
+        buf,
+        lines,
+        spans.version,
+        spans.method.of(buf),
+        spans.target.of(buf),
+        peer,
+    )
+}
+
+fn taken(
+    alloc: Global,
+    buf: &[u8],
+    lines: &[HeaderSpan],
+    version: u8,
+    method: &[u8],
+    target: &[u8],
+    peer: Ip,
+) -> Result<Request, RequestRefused>
+    requires { AreWithin buf.now lines.now }
+    ensures { TakesRequest method.now target.now version (lines_at buf.now lines.now) peer result }
+{
+    match read_head(buf, lines, version, method, target) {
+        Ok(head) => request_of(alloc, buf, lines, version, method, target, &head, peer),
+        Err(fault) => Err(RequestRefused::Head(fault)),
+    }
+}
+
+// What the fields and the target say, before a path is normalised.
+#[derive(Clone, Copy)]
+struct Sound<'a> {
+    host: &'a [u8],
+    framing: Framing,
+}
+
+// The host text and the framing of a head without a fault but perhaps a bad escape.
+fn read_head<'a>(
+    buf: &'a [u8],
+    lines: &[HeaderSpan],
+    version: u8,
+    method: &[u8],
+    target: &'a [u8],
+) -> Result<Sound<'a>, HeadFault>
+    requires { AreWithin buf.now lines.now }
+    ensures { let fields = lines_at buf.now lines.now in MatchResult result
+        (λ s. IsSound method.now target.now version fields × (s.host.now ≡ host_in target.now fields)
+        × (s.framing ≡ framing_by (encodings_of fields) (lengths_of fields) Framing.None))
+        (IsHeadFault method.now target.now version fields) }
+{
+    let value = match host_value(buf, lines, version) {
+        Ok(value) => value,
+        Err(fault) => return Err(fault),
+    };
+    let host = host_text(target, value);
+    match framing_of(buf, lines, version, Framing::None) {
+        Ok(_) if is_refused_target(method, target, host) => Err(HeadFault::BadTarget),
+        Ok(framing) => Ok(Sound { host, framing }),
+        Err(FramingFault::BadLength) => Err(HeadFault::BadLength),
+        Err(FramingFault::BothLengths) => Err(HeadFault::BothLengths),
+        Err(FramingFault::BadCoding) => Err(HeadFault::BadCoding),
+    }
+}
+
+// The value of the one `Host`, or nothing in version 1.0.
+fn host_value<'a>(buf: &'a [u8], lines: &[HeaderSpan], version: u8) -> Result<&'a [u8], HeadFault>
+    requires { AreWithin buf.now lines.now }
+    ensures { let fields = lines_at buf.now lines.now in MatchResult result
+        (λ host. IsHosted version fields × (host.now ≡ first_or_empty (hosts_of fields)))
+        (λ fault. (method target : ListOf ℕ) → IsHeadFault method target version fields fault) }
+{
+    if has_none(buf, lines, b"Host") {
+        return if version == 1 {
+            Err(HeadFault::NoHost)
+        } else {
+            Ok(b"")
+        };
+    }
+    match only_value(buf, lines, b"Host") {
+        Some(value) => Ok(value),
+        None => Err(HeadFault::TwoHosts),
+    }
+}
+
+// The request of a sound head, unless an escape of its path is bad.
+fn request_of(
+    alloc: Global,
+    buf: &[u8],
+    lines: &[HeaderSpan],
+    version: u8,
+    method: &[u8],
+    target: &[u8],
+    head: &Sound<'_>,
+    peer: Ip,
+) -> Result<Request, RequestRefused>
+    requires lines { AreWithin buf.now lines.now }
+    requires sound { IsSound method.now target.now version (lines_at buf.now lines.now) }
+    requires host { head.now.host.now ≡ host_in target.now (lines_at buf.now lines.now) }
+    requires framing { head.now.framing ≡ framing_by (encodings_of (lines_at buf.now lines.now)) (lengths_of (lines_at buf.now lines.now)) Framing.None }
+    ensures { TakesRequest method.now target.now version (lines_at buf.now lines.now) peer result }
+{
+    let mut path = Vec::new(alloc);
+    match normalise(path_in(target), &mut path) {
+        Ok(()) => match request_with(alloc, buf, lines, version, method, target, head, peer, path) {
+            Ok(request) => Ok(request),
+            Err(_) => Err(RequestRefused::Memory),
+        },
+        Err(PathFault::BadEscape { at: _ }) => Err(RequestRefused::Head(HeadFault::BadEscape)),
+        Err(PathFault::Memory) => Err(RequestRefused::Memory),
+    }
+}
+
+// The request with this path.
+fn request_with(
+    alloc: Global,
+    buf: &[u8],
+    lines: &[HeaderSpan],
+    version: u8,
+    method: &[u8],
+    target: &[u8],
+    head: &Sound<'_>,
+    peer: Ip,
+    path: Vec<u8>,
+) -> Result<Request, Memory>
+    requires lines { AreWithin buf.now lines.now }
+    requires host { head.now.host.now ≡ host_in target.now (lines_at buf.now lines.now) }
+    requires framing { head.now.framing ≡ framing_by (encodings_of (lines_at buf.now lines.now)) (lengths_of (lines_at buf.now lines.now)) Framing.None }
+    requires path { Normalises (path_of target.now) path.items }
+    ensures { IfOk result (IsRequestOf method.now target.now version (lines_at buf.now lines.now) peer) }
+{
+    let query = copied(alloc, query_in(target))?;
+    let keep = version == 1 && !is_in_connection(buf, lines, b"close");
+    let lines = backend_lines(alloc, buf, lines, head.host, peer)?;
+    Ok(Request {
+        method: Bytes::from_slice(alloc, method)?,
+        host: Bytes::from_slice(alloc, head.host)?,
+        path: Bytes::from_vec(path),
+        query,
+        lines,
+        framing: head.framing,
+        version,
+        keep,
+    })
+}
+
+fn copied(alloc: Global, text: Option<&[u8]>) -> Result<Option<Bytes>, Memory>
+    ensures { IfOk result (λ copy. copy ≡ option_map (λ t. t.now) text.entry) }
+{
+    match text {
+        Some(text) => Ok(Some(Bytes::from_slice(alloc, text)?)),
+        None => Ok(None),
+    }
+}
+
+// The lines for the backend: the client's that go on, and then what the proxy says of the client.
+fn backend_lines(
+    alloc: Global,
+    buf: &[u8],
+    lines: &[HeaderSpan],
+    host: &[u8],
+    peer: Ip,
+) -> Result<List<Line>, Memory>
+    requires { AreWithin buf.now lines.now }
+    ensures { IfOk result (λ all. map field_of all ≡ lines_for_backend peer host.now (lines_at buf.now lines.now)) }
+{
+    let mut all = client_lines(alloc, buf, lines)?;
+    let mut address = Vec::new(alloc);
+    print_ip(alloc, peer, &mut address)?;
+    push_told(alloc, &mut all, address.as_slice(), host)?;
+    Ok(all)
+}
+
+fn client_lines(alloc: Global, buf: &[u8], lines: &[HeaderSpan]) -> Result<List<Line>, Memory>
+    requires { AreWithin buf.now lines.now }
+    ensures { IfOk result (λ kept. map field_of kept ≡ filter (goes_to_backend (lines_at buf.now lines.now)) (lines_at buf.now lines.now)) }
+{
+    let mut kept = List::new(alloc);
+    for line in lines {
+        if does_go_to_backend(buf, lines, line) {
+            kept.push(line_at(alloc, buf, line)?)?;
+        }
+    }
+    Ok(kept)
+}
+
+fn does_go_to_backend(buf: &[u8], lines: &[HeaderSpan], line: &HeaderSpan) -> bool
+    requires all { AreWithin buf.now lines.now }
+    requires one { IsHeaderWithin (length buf.now) line.now }
+    ensures { result ≡ goes_to_backend (lines_at buf.now lines.now) (header_bytes buf.now line.now) }
+{
+    does_go_on(buf, lines, line) && !is_replaced_line(buf, line)
+}
+
+fn is_replaced_line(buf: &[u8], line: &HeaderSpan) -> bool
+    requires { IsHeaderWithin (length buf.now) line.now }
+    ensures { result ≡ is_replaced (header_bytes buf.now line.now) }
+{
+    is_named(buf, line, b"Host")
+        || is_named(buf, line, b"Content-Length")
+        || is_named(buf, line, b"Expect")
+        || is_named(buf, line, b"X-Real-Ip")
+        || is_of_forwarding(line.name.of(buf))
+}
+
+fn is_of_forwarding(name: &[u8]) -> bool
+    ensures { result ≡ is_forwarded name.now }
+{
+    name.len() >= 12 && fold_equal(&name[..12], b"X-Forwarded-")
+}
+
+// Adds what the proxy says of a client with this address.
+#[tactic(auto, using(std::proofs::Common::append_assoc))]
+fn push_told(
+    alloc: Global,
+    lines: &mut List<Line>,
+    address: &[u8],
+    host: &[u8],
+) -> Result<(), Memory>
+    ensures { OnOk result (map field_of lines.new ≡ map field_of lines.old ++ told_fields address.now host.now) }
+{
+    push_line(alloc, lines, b"X-Forwarded-For", address)?;
+    push_line(alloc, lines, b"X-Forwarded-Host", host)?;
+    push_line(alloc, lines, b"X-Forwarded-Port", port_in(host))?;
+    push_line(alloc, lines, b"X-Forwarded-Proto", b"http")?;
+    push_line(alloc, lines, b"X-Real-Ip", address)?;
+    Ok(())
+}
+
+fn push_line(alloc: Global, lines: &mut List<Line>, name: &[u8], value: &[u8]) -> Result<(), Memory>
+    ensures { OnOk result (map field_of lines.new ≡ map field_of lines.old ++ (name.now, value.now) ∷ []) }
+{
+    let name = Bytes::from_slice(alloc, name)?;
+    let value = Bytes::from_slice(alloc, value)?;
+    lines.push(Line { name, value })
+}

@@ -1,0 +1,144 @@
+//! What a request's target and its host text say (RFC 9112 section 3.2).
+ghost use Rattle.std.specs.Prelude.{◌≡◌, ℕ, List, ◌≤◌, ◌<◌, ◌∷◌, IfSome, IsTrue, Bool, length, take, drop};
+ghost use Rattle.std.specs.List.{list_all, position};
+ghost use Rattle.std.specs.Option.{option_map};
+ghost use Rattle.path_norm.specs.Normal.{IsRooted};
+ghost use Rattle.http_wire.specs.Targets.{is_origin, is_absolute, ends_authority, behind_scheme, before_place, from_place, behind_place, authority_of, path_and_query, is_question, or_slash, path_of, query_of, host_text_of, is_target_byte, is_bad_target, last_digits, has_port, port_of};
+
+use px_base::fold_equal;
+
+/// Whether the target begins with `http://`, without case.
+fn has_scheme(target: &[u8]) -> bool
+    ensures { result ≡ is_absolute target.now }
+{
+    target.len() >= 7 && fold_equal(&target[..7], b"http://")
+}
+
+fn is_rooted(target: &[u8]) -> bool
+    ensures { result ≡ is_origin target.now }
+{
+    matches!(target, [b'/', ..])
+}
+
+// Where the authority at the front ends, if anything stands behind it.
+fn authority_end(text: &[u8]) -> Option<usize>
+    ensures value { result ≡ position ends_authority text.now }
+    ensures within { IfSome result (λ at. at < length text.now) }
+{
+    text.iter().position(|b| *b == b'/' || *b == b'?')
+}
+
+fn authority_in(rest: &[u8]) -> &[u8]
+    ensures { result.now ≡ before_place (position ends_authority rest.now) rest.now }
+{
+    match authority_end(rest) {
+        Some(at) => &rest[..at],
+        None => rest,
+    }
+}
+
+fn behind_authority(rest: &[u8]) -> &[u8]
+    ensures { result.now ≡ from_place (position ends_authority rest.now) rest.now }
+{
+    match authority_end(rest) {
+        Some(at) => &rest[at..],
+        None => b"",
+    }
+}
+
+/// The host text: the authority of an absolute target, else the value of `Host`.
+pub(crate) fn host_text<'a>(target: &'a [u8], host: &'a [u8]) -> &'a [u8]
+    ensures { result.now ≡ host_text_of target.now host.now }
+{
+    if has_scheme(target) {
+        authority_in(&target[7..])
+    } else {
+        host
+    }
+}
+
+// The target without its scheme and its authority.
+fn path_with_query(target: &[u8]) -> &[u8]
+    ensures { result.now ≡ path_and_query target.now }
+{
+    if has_scheme(target) {
+        behind_authority(&target[7..])
+    } else {
+        target
+    }
+}
+
+/// The path, which is a slash where the target has none.
+pub(crate) fn path_in(target: &[u8]) -> &[u8]
+    ensures { result.now ≡ path_of target.now }
+{
+    let path = before_question(path_with_query(target));
+    if path.is_empty() { b"/" } else { path }
+}
+
+fn before_question(text: &[u8]) -> &[u8]
+    ensures { result.now ≡ before_place (position is_question text.now) text.now }
+{
+    match question_at(text) {
+        Some(at) => &text[..at],
+        None => text,
+    }
+}
+
+fn question_at(text: &[u8]) -> Option<usize>
+    ensures value { result ≡ position is_question text.now }
+    ensures within { IfSome result (λ at. at < length text.now) }
+{
+    text.iter().position(|b| *b == b'?')
+}
+
+/// What stands behind the first question mark.
+pub(crate) fn query_in(target: &[u8]) -> Option<&[u8]>
+    ensures { option_map (λ q. q.now) result ≡ query_of target.now }
+{
+    after_question(path_with_query(target))
+}
+
+fn after_question(text: &[u8]) -> Option<&[u8]>
+    ensures { option_map (λ q. q.now) result ≡ behind_place (position is_question text.now) text.now }
+{
+    match question_at(text) {
+        Some(at) => Some(&text[at + 1..]),
+        None => None,
+    }
+}
+
+/// Whether the proxy doesn't take this target, or this host text with it.
+pub(crate) fn is_refused_target(method: &[u8], target: &[u8], host: &[u8]) -> bool
+    ensures { result ≡ is_bad_target method.now target.now host.now }
+{
+    method == b"CONNECT".as_slice()
+        || !(is_rooted(target) || has_scheme(target))
+        || !has_target_bytes(target)
+        || !has_target_bytes(host)
+}
+
+fn has_target_bytes(text: &[u8]) -> bool
+    ensures { result ≡ list_all is_target_byte text.now }
+{
+    text.iter().all(|b| *b >= 33 && *b <= 126 && *b != b'#')
+}
+
+/// The port of a host text: the digits behind a last colon, else 80.
+pub(crate) fn port_in(host: &[u8]) -> &[u8]
+    ensures { result.now ≡ port_of host.now }
+{
+    let digits = digits_at_end(host);
+    if digits > 0 && digits < host.len() && host[host.len() - digits - 1] == b':' {
+        &host[host.len() - digits..]
+    } else {
+        b"80"
+    }
+}
+
+fn digits_at_end(text: &[u8]) -> usize
+    ensures within { result ≤ length text.now }
+    ensures value { result ≡ last_digits text.now }
+{
+    text.iter().rev().take_while(|b| b.is_ascii_digit()).count()
+}
