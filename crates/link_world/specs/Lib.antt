@@ -1,1 +1,2 @@
 pub mod NoteText
+pub mod Log
