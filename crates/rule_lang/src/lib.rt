@@ -2,6 +2,8 @@
 #![tactic(auto)]
 
 mod check;
+mod depth;
+mod expect;
 mod law;
 mod leaf;
 mod lex;
