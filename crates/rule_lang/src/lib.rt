@@ -1,6 +1,8 @@
 //! The text of a rule, which says what requests a router takes.
 #![tactic(auto)]
 
+mod build;
+mod call;
 mod check;
 mod depth;
 mod expect;
