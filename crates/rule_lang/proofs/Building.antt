@@ -138,7 +138,7 @@ form_made (grouped f) = ap grouped (form_made f)
 form_made (joined f g) = ap (λ x. joined x (made forms called g)) (form_made f) ∙ ap (joined f) (form_made g)
 form_made (chosen f g) = ap (λ x. chosen x (made forms called g)) (form_made f) ∙ ap (chosen f) (form_made g)
 
-some_same : {X : Type 0} (x y : X) → Some x ≡ Some y → x ≡ y
+pub some_same : {X : Type 0} (x y : X) → Some x ≡ Some y → x ≡ y
 some_same x y e = cc
 
 pub one_form : (ts : List Token) (f g : Form) → IsRule ts f → IsRule ts g → f ≡ g

@@ -1,5 +1,5 @@
 -- A rule while it is put together.
-use Rattle.std.proofs.Common.{◌≡◌, ℕ, ◌+◌, ◌<◌, ◌≤◌, ◌⊎◌, inl, inr, Option, Some, None, MatchOption, List, [], ◌∷◌, ◌++◌, length, get_or, take, drop, refl, sym, ap, ◌∙◌, subst, arith}
+use Rattle.std.proofs.Common.{◌≡◌, ℕ, zero, suc, ◌+◌, ◌<◌, ◌≤◌, ◌⊎◌, inl, inr, Option, Some, None, MatchOption, List, [], ◌∷◌, ◌++◌, length, get_or, take, drop, refl, sym, ap, ◌∙◌, subst, arith, append_assoc, Result, Ok, Err, IfOk, OnOk}
 use Rattle.std.specs.List.{AllByRecursion}
 use Rattle.rule_lang.specs.declared.token.Token.{Token}
 use Rattle.rule_lang.specs.declared.token.TokenKind.{TokenKind}
@@ -7,14 +7,15 @@ use Rattle.rule_lang.specs.declared.token.TokenKind.TheVariants as kind
 use Rattle.rule_lang.specs.declared.call.CallFault.{CallFault}
 use Rattle.rule_lang.specs.declared.call.CallFault.TheVariants as fault
 use Rattle.rule_lang.specs.Forms.{CallTokens, Form, IsRule, form_calls}
-use Rattle.rule_lang.specs.Trees.{Tree}
+use Rattle.rule_lang.specs.declared.rule.Rule.{Rule}
+use Rattle.rule_lang.specs.Trees.{Tree, tree_of}
 use Rattle.rule_lang.specs.Calls.{IsGoodCall, IsCallFault}
 use Rattle.rule_lang.specs.Values.{Stands, StandsAsValue, tokens_call, IsRightCall}
 use Rattle.rule_lang.specs.Faults.{FirstCallFault, IsFirstCallFault}
-use Rattle.rule_lang.specs.Builds.{Making, Layer, empty_layer, put, whole_of, Build, build_open, build_left, build_close, build_step_of, build_step, build_steps, CallScan, scan_step_of, scan_step, scan_steps, scan_start, scan_close}
+use Rattle.rule_lang.specs.Builds.{Making, Layer, empty_layer, put, whole_of, Build, build_open, build_left, build_close, build_step_of, build_step, build_steps, CallScan, scan_step_of, scan_step, scan_steps, scan_start, scan_close, form_tree}
 use Rattle.rule_lang.specs.Builders.{TokensStand, EndsRight, EndsWrong}
 use Rattle.rule_lang.proofs.Quotes.{all-append}
-use Rattle.rule_lang.proofs.Building.{build_append, build_start, scan_append, scan_grows, whole_scanned}
+use Rattle.rule_lang.proofs.Building.{build_append, build_start, scan_append, scan_grows, whole_scanned, some_same}
 
 -- ---- the tokens of the call that is begun
 
@@ -135,5 +136,61 @@ good_of_right text [] all = tt
 good_of_right text (c ∷ calls) ((m, (key, value, means, tree)), rest) = ((m, (key, value, means)), good_of_right text calls rest)
 
 -- the call that ends here is the first with a fault
-first_fault : (text : List ℕ) (tokens rest : List Token) (t : Token) (n : Option Token) (values : List Token) (k : TokenKind) (e : CallFault) → t.kind ≡ k → (scan_steps scan_start tokens).name ≡ n → (scan_steps scan_start tokens).values ≡ values
-    → AllByRecursion (IsRightCall text) (scan_steps scan_start tokens).calls → (calls : List CallTokens) → (scan_steps scan_start (tokens ++ t ∷ rest)).calls ≡ calls → EndsWrong text n values k e → IsFirstCallFault text calls e
+fault_here : (text : List ℕ) (tokens rest : List Token) (t name : Token) (values : List Token) (e : CallFault) → t.kind ≡ kind.Close → (scan_steps scan_start tokens).name ≡ Some name
+    → (scan_steps scan_start tokens).values ≡ values → AllByRecursion (IsRightCall text) (scan_steps scan_start tokens).calls → (calls : List CallTokens)
+    → (scan_steps scan_start (tokens ++ t ∷ rest)).calls ≡ calls → IsCallFault text (tokens_call name values) e → FirstCallFault text calls e
+fault_here text tokens rest t name values e is name_is values_is all calls calls_is wrong =
+    let s = scan_steps scan_start tokens in
+    let (more, grown) = scan_grows (scan_step s t) rest in
+    let here : (scan_step s t).calls ≡ s.calls ++ tokens_call name values ∷ [] =
+    ap (λ k. (scan_step_of s t k).calls) is ∙ ap (λ n. (scan_close n s).calls) name_is ∙ ap (λ v. s.calls ++ tokens_call name v ∷ []) values_is in
+    record {
+      good = s.calls;
+      bad = tokens_call name values;
+      others = more;
+      calls_are = sym calls_is ∙ ap (λ x. x.calls) (scan_append scan_start tokens (t ∷ rest)) ∙ grown ∙ ap (λ l. l ++ more) here ∙ append_assoc s.calls (tokens_call name values ∷ []) more;
+      are_good = good_of_right text s.calls all;
+      is_fault = wrong;
+    }
+
+first_fault_at : (text : List ℕ) (tokens rest : List Token) (t : Token) (n : Option Token) (values : List Token) (k : TokenKind) (e : CallFault) → t.kind ≡ k → (scan_steps scan_start tokens).name ≡ n
+    → (scan_steps scan_start tokens).values ≡ values → AllByRecursion (IsRightCall text) (scan_steps scan_start tokens).calls → (calls : List CallTokens)
+    → (scan_steps scan_start (tokens ++ t ∷ rest)).calls ≡ calls → EndsWrong text n values k e → IsFirstCallFault text calls e
+first_fault_at text tokens rest t n values k fault.Memory is name_is values_is all calls calls_is wrong = tt
+first_fault_at text tokens rest t (Some name) values kind.Close (fault.UnknownMatcher at) is name_is values_is all calls calls_is wrong =
+    fault_here text tokens rest t name values (fault.UnknownMatcher at) is name_is values_is all calls calls_is wrong
+first_fault_at text tokens rest t (Some name) values kind.Close (fault.Arity at) is name_is values_is all calls calls_is wrong =
+    fault_here text tokens rest t name values (fault.Arity at) is name_is values_is all calls calls_is wrong
+first_fault_at text tokens rest t (Some name) values kind.Close (fault.Value at) is name_is values_is all calls calls_is wrong =
+    fault_here text tokens rest t name values (fault.Value at) is name_is values_is all calls calls_is wrong
+first_fault_at text tokens rest t n values k e is name_is values_is all calls calls_is wrong = absurd wrong
+
+pub first_fault : (text : List ℕ) (tokens rest : List Token) (t : Token) (n : Option Token) (values : List Token) (e : CallFault) (f : Form) → (scan_steps scan_start tokens).name ≡ n
+    → (scan_steps scan_start tokens).values ≡ values → AllByRecursion (IsRightCall text) (scan_steps scan_start tokens).calls
+    → IsRule (tokens ++ t ∷ rest) f → EndsWrong text n values t.kind e → IsFirstCallFault text (form_calls f) e
+first_fault text tokens rest t n values e f name_is values_is all rule wrong =
+    first_fault_at text tokens rest t n values t.kind e refl name_is values_is all (form_calls f) (whole_scanned (tokens ++ t ∷ rest) f rule) wrong
+
+pub all_at : {X : Type 0} (P : X → Type 0) (xs : List X) (i : ℕ) (d : X) → i < length xs → AllByRecursion P xs → P (get_or xs i d)
+all_at P [] i d within h = absurd (omega arith)
+all_at P (x ∷ xs) zero d within h = h.0
+all_at P (x ∷ xs) (suc i) d within h = all_at P xs i d (omega arith) h.1
+
+pub build_more : {X : Type 0} (m : Making X) (c : CallTokens → X) (tokens : List Token) (t : Token) (b e : Build X) → build_steps m c build_start tokens ≡ b → e ≡ build_step m c b t
+    → build_steps m c build_start (tokens ++ t ∷ []) ≡ e
+build_more m c tokens t b e h step = build_append m c build_start tokens (t ∷ []) ∙ ap (λ x. build_steps m c x (t ∷ [])) h ∙ sym step
+
+pub start_agrees : {X : Type 0} → Agree {X = X} build_start scan_start
+start_agrees = record { name = refl; values = refl }
+
+pub start_nots : {X : Type 0} → NotsWithin {X = X} 0 build_start
+start_nots = record { here = omega arith; outside = tt }
+
+pub on_ok : {X : Type 0} (r : Result X CallFault) (P : Type 0) → P → OnOk r P
+on_ok (Ok x) P p = p
+on_ok (Err e) P p = tt
+
+pub finished : (text : List ℕ) (tokens : List Token) (w : Option Tree) (r : Result Rule CallFault) → ((f : Form) → IsRule tokens f → w ≡ Some (form_tree text f))
+    → IfOk r (λ x. w ≡ Some (tree_of x)) → IfOk r (λ x. (f : Form) → IsRule tokens f → tree_of x ≡ form_tree text f)
+finished text tokens w (Err e) whole h = tt
+finished text tokens w (Ok x) whole h = λ f rule. some_same (tree_of x) (form_tree text f) (sym h ∙ whole f rule)

@@ -50,7 +50,10 @@ pub(crate) fn build(alloc: Global, text: &[u8], tokens: &[Token]) -> Result<Rule
         outer: Vec::new(alloc),
     };
     for token in tokens {
-        builder = step(alloc, text, builder, *token)?;
+        match step(alloc, text, builder, *token) {
+            Ok(next) => builder = next,
+            Err(fault) => return Err(fault),
+        }
     }
     finish(alloc, builder)
 }
