@@ -11,6 +11,7 @@ mod leaf;
 mod lex;
 mod matcher;
 mod print;
+mod read;
 mod rule;
 mod scan;
 #[cfg(test)]
