@@ -7,6 +7,7 @@ use Rattle.std.specs.Char.{is_ascii_alphabetic}
 use Rattle.rule_lang.specs.declared.token.Token.{Token}
 use Rattle.rule_lang.specs.declared.token.TokenKind.{TokenKind}
 use Rattle.rule_lang.specs.declared.token.TokenKind.TheVariants as kind
+use Rattle.rule_lang.specs.Grammar.{IsValueText, part_character}
 use Rattle.rule_lang.specs.Tokens.{is_blank, AreBlank, Part, character, pair, part_text, parts_text, IsPart, IsGoodPart, IsSpelled, Lexes, AreTokens, BeginsNone, IsUnclosed, HasBadEscape, IsFaultAt, FailsAt}
 
 -- ---- lists
@@ -30,16 +31,13 @@ front_kind c =
     if is_ascii_alphabetic c then kind.Name else (if c == 124 then kind.Or else (if c == 38 then kind.And else (if c == 33 then kind.Not
     else (if c == 40 then kind.Open else (if c == 41 then kind.Close else (if c == 44 then kind.Comma else (if c == 96 then kind.Raw else kind.Quoted)))))))
 
-blank_is : (c d : ℕ) (b : Bool) → is_ascii_alphabetic d ≡ false → ((c == d) || b) ≡ true → (b ≡ true → is_ascii_alphabetic c ≡ false) → is_ascii_alphabetic c ≡ false
-blank_is c d b letter h other = at_test (c == d) refl h
-  where
-    at_test : (e : Bool) → (c == d) ≡ e → (e || b) ≡ true → is_ascii_alphabetic c ≡ false
-    at_test true e k = subst (λ x. is_ascii_alphabetic x ≡ false) (sym (eqb-true c d e)) letter
-    at_test false e k = other k
+blank_is : (c d : ℕ) (b : Bool) → is_ascii_alphabetic d ≡ false → (b || (c == d)) ≡ true → (b ≡ true → is_ascii_alphabetic c ≡ false) → is_ascii_alphabetic c ≡ false
+blank_is c d true letter h other = other refl
+blank_is c d false letter h other = subst (λ x. is_ascii_alphabetic x ≡ false) (sym (eqb-true c d h)) letter
 
 blank_no_letter : (c : ℕ) → is_blank c ≡ true → is_ascii_alphabetic c ≡ false
-blank_no_letter c h = blank_is c 32 ((c == 9) || (c == 13) || (c == 10)) refl h
-    (λ h2. blank_is c 9 ((c == 13) || (c == 10)) refl h2 (λ h3. blank_is c 13 (c == 10) refl h3 (λ h4. subst (λ x. is_ascii_alphabetic x ≡ false) (sym (eqb-true c 10 h4)) refl)))
+blank_no_letter c h = blank_is c 10 (((c == 32) || (c == 9)) || (c == 13)) refl h
+    (λ h2. blank_is c 13 ((c == 32) || (c == 9)) refl h2 (λ h3. blank_is c 9 (c == 32) refl h3 (λ h4. subst (λ x. is_ascii_alphabetic x ≡ false) (sym (eqb-true c 32 h4)) refl)))
 
 letter_no_blank : (c : ℕ) → is_ascii_alphabetic c ≡ true → is_blank c ≡ false
 letter_no_blank c letter = at_test (is_blank c) refl
@@ -175,14 +173,14 @@ spelled_no_blank k s r is = let f = front_of k s r is in (f.first, (f.others ++ 
 
 pub blank_not : (text : List ℕ) → AreBlank text → IsNoBlank text → ⊥
 unfolding IsNoBlank
-blank_not [] h (c, (rest, is, no)) = not_nil c rest is
-blank_not (b ∷ text) h (c, (rest, is, no)) = differs (is_blank b) h.0 (ap is_blank (head_same b c text rest is) ∙ no)
+blank_not [] h (c, (rest, is, plain)) = not_nil c rest is
+blank_not (b ∷ text) h (c, (rest, is, plain)) = differs (is_blank b) h.0 (ap is_blank (head_same b c text rest is) ∙ plain)
 
 pub same_blanks : (a b x y : List ℕ) → AreBlank a → AreBlank b → IsNoBlank x → IsNoBlank y → a ++ x ≡ b ++ y → (a ≡ b) × (x ≡ y)
 unfolding IsNoBlank
 same_blanks [] [] x y h k nx ny e = (refl, e)
-same_blanks [] (d ∷ b) x y h k (c, (rest, is, no)) ny e = absurd (differs (is_blank d) k.0 (ap is_blank (head_same d c (b ++ y) rest (sym e ∙ is)) ∙ no))
-same_blanks (c ∷ a) [] x y h k nx (d, (rest, is, no)) e = absurd (differs (is_blank c) h.0 (ap is_blank (head_same c d (a ++ x) rest (e ∙ is)) ∙ no))
+same_blanks [] (d ∷ b) x y h k (c, (rest, is, plain)) ny e = absurd (differs (is_blank d) k.0 (ap is_blank (head_same d c (b ++ y) rest (sym e ∙ is)) ∙ plain))
+same_blanks (c ∷ a) [] x y h k nx (d, (rest, is, plain)) e = absurd (differs (is_blank c) h.0 (ap is_blank (head_same c d (a ++ x) rest (e ∙ is)) ∙ plain))
 same_blanks (c ∷ a) (d ∷ b) x y h k nx ny e =
     let (same, rest) = same_blanks a b x y h.1 k.1 nx ny (tail_same c d (a ++ x) (b ++ y) e) in
     (ap₂ ◌∷◌ (head_same c d (a ++ x) (b ++ y) e) same, rest)
@@ -237,6 +235,25 @@ parts_all (pair d ∷ a) c b h k = (tt, parts_all a c b h.1 k)
 bad_not_good : (c : ℕ) → (c ≢ 34) × (c ≢ 92) → IsGoodPart (pair c) → ⊥
 bad_not_good c bad (inl quote) = bad.0 quote
 bad_not_good c bad (inr slash) = bad.1 slash
+
+pub no_blank_of_fault : (text : List ℕ) (place : ℕ) → IsFaultAt text place → IsNoBlank text
+unfolding IsNoBlank
+no_blank_of_fault [] place (inl (inl none, at)) = absurd (let s = none.some in omega arith)
+no_blank_of_fault (c ∷ text) place (inl (inl none, at)) = (c, (text, refl, none.no_blank))
+no_blank_of_fault text place (inl (inr (inl (body, plain, is)), at)) = (96, (body, is, refl))
+no_blank_of_fault text place (inl (inr (inr (parts, (tail, are, is, last))), at)) = (34, (parts_text parts ++ tail, is, refl))
+no_blank_of_fault text place (inr bad) = (34, (parts_text (bad.good ++ pair bad.escaped ∷ bad.others) ++ 34 ∷ bad.more, bad.text_is, refl))
+
+-- a text has one value
+pub value_same : (text v w : List ℕ) → IsValueText text v → IsValueText text w → v ≡ w
+value_same text v w (inl (plain, is)) (inl (plain2, is2)) = (until_quote v w [] [] plain plain2 (tail_same 96 96 (v ++ 96 ∷ []) (w ++ 96 ∷ []) (sym is ∙ is2))).0
+value_same text v w (inl (plain, is)) (inr (parts, good, value, is2)) =
+    absurd (let x = head_same 96 34 (v ++ 96 ∷ []) (parts_text parts ++ 34 ∷ []) (sym is ∙ is2) in omega arith)
+value_same text v w (inr (parts, good, value, is)) (inl (plain, is2)) =
+    absurd (let x = head_same 34 96 (parts_text parts ++ 34 ∷ []) (w ++ 96 ∷ []) (sym is ∙ is2) in omega arith)
+value_same text v w (inr (parts, good, value, is)) (inr (others, good2, value2, is2)) =
+    let (same, rest) = parts_until parts others [] [] (good_are_parts parts good) (good_are_parts others good2) (tail_same 34 34 (parts_text parts ++ 34 ∷ []) (parts_text others ++ 34 ∷ []) (sym is ∙ is2)) in
+    value ∙ ap (λ p. map part_character p) same ∙ sym value2
 
 pub fault_not_spelled : (k : TokenKind) (s r : List ℕ) (place : ℕ) → IsFaultAt (s ++ r) place → IsSpelled k s r → ⊥
 fault_not_spelled k s r place (inl (inl none, at)) is = none_not_spelled k s r none is

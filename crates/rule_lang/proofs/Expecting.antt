@@ -299,7 +299,7 @@ reaches (t ∷ tokens) front p q e r = further (stepped p t.kind) refl e
 
 -- ---- and can be gone on with
 
-begins_shorter : (tokens more : List Token) → BeginsRule (tokens ++ more) → BeginsRule tokens
+pub begins_shorter : (tokens more : List Token) → BeginsRule (tokens ++ more) → BeginsRule tokens
 begins_shorter tokens more (rest, (f, p)) = (more ++ rest, (f, subst (λ l. IsRule l f) (append_assoc tokens more rest) p))
 
 abbrev pub mark_of : TokenKind → Token

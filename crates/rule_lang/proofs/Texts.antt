@@ -13,10 +13,11 @@ use Rattle.rule_lang.specs.Matchers.{IsNamed, TakesCount}
 use Rattle.rule_lang.specs.Trees.{Tree, call, negation, both, either}
 use Rattle.rule_lang.specs.Prints.{and_is_bare, or_is_bare}
 use Rattle.rule_lang.specs.Grammar.{IsValueText, IsValue, AreTwoValues, AreValues, Calls, Reads, reads_call, reads_not, reads_group, reads_and, reads_or, reads_after_blank, reads_before_blank, IsRuleText}
-use Rattle.rule_lang.specs.Forms.{CallTokens, Form, AreMoreValues, AreSeparated, IsCall, Parses, parses_call, parses_not, parses_group, parses_and, parses_or, IsRule, form_calls}
+use Rattle.rule_lang.specs.Forms.{CallTokens, Form, called, negated, grouped, joined, chosen, AreMoreValues, AreSeparated, IsCall, Parses, parses_call, parses_not, parses_group, parses_and, parses_or, IsRule, form_calls}
 use Rattle.rule_lang.specs.Calls.{token_text, HasValue, HasOne, HasBoth, CallMeans}
 use Rattle.rule_lang.specs.Values.{Stands, IsRightCall, call_tree}
 use Rattle.rule_lang.specs.Builds.{form_tree}
+use Rattle.rule_lang.specs.Reading.{Means}
 use Rattle.rule_lang.proofs.Quotes.{all-append}
 use Rattle.rule_lang.proofs.Valuing.{token_text_is}
 
@@ -281,11 +282,11 @@ or_reads : (at : Level) (left y c right : List ℕ) (r s : Tree) → or_is_bare 
 or_reads at left y c right r s bare is blank p q =
     subst (λ t. Reads at t (either r s)) (or_text left y c right is) (reads_or at (left ++ y) right r s bare (blanks_after level.Or y left r blank p) q)
 
-all_left : {X : Type 0} (P : X → Type 0) (xs ys : List X) → AllByRecursion P (xs ++ ys) → AllByRecursion P xs
+pub all_left : {X : Type 0} (P : X → Type 0) (xs ys : List X) → AllByRecursion P (xs ++ ys) → AllByRecursion P xs
 all_left P [] ys h = tt
 all_left P (x ∷ xs) ys h = (h.0, all_left P xs ys h.1)
 
-all_right : {X : Type 0} (P : X → Type 0) (xs ys : List X) → AllByRecursion P (xs ++ ys) → AllByRecursion P ys
+pub all_right : {X : Type 0} (P : X → Type 0) (xs ys : List X) → AllByRecursion P (xs ++ ys) → AllByRecursion P ys
 all_right P [] ys h = h
 all_right P (x ∷ xs) ys h = all_right P xs ys h.1
 
@@ -347,3 +348,12 @@ pub whole_reads : (text : List ℕ) (tokens : List Token) (f : Form) → AreToke
 whole_reads text tokens f are rule right =
     let (own, split, further, reads) = parse_reads level.Or tokens f text 0 are.stop text are.after rule (placed_start text) are.lexes right in
     subst (λ t. Reads level.Or t (form_tree text f)) (sym split) (blanks_after level.Or are.after own (form_tree text f) are.blank reads)
+
+pub right_means : (text : List ℕ) (f : Form) → AllByRecursion (IsRightCall text) (form_calls f) → Means text f (form_tree text f)
+right_means text (called c) ((m, (key, value, means, tree)), rest) = subst (Means text (called c)) (sym tree) means
+right_means text (negated f) h = right_means text f h
+right_means text (grouped f) h = right_means text f h
+right_means text (joined f g) h =
+    (right_means text f (all_left (IsRightCall text) (form_calls f) (form_calls g) h), right_means text g (all_right (IsRightCall text) (form_calls f) (form_calls g) h))
+right_means text (chosen f g) h =
+    (right_means text f (all_left (IsRightCall text) (form_calls f) (form_calls g) h), right_means text g (all_right (IsRightCall text) (form_calls f) (form_calls g) h))
