@@ -1,14 +1,13 @@
 -- A text has one list of tokens, or one place at which they stop.
-use Rattle.std.proofs.Common.{◌≡◌, ◌≢◌, ℕ, ◌+◌, ◌<◌, ◌==◌, ◌⊎◌, inl, inr, Bool, true, false, ◌||◌, if◌then◌else◌, Option, Some, None, List, [], ◌∷◌, ◌++◌, length, get_or, map, refl, sym, ap, ap₂, ◌∙◌, subst, arith, append_assoc, length-append, eqb-true}
+use Rattle.std.proofs.Common.{◌≡◌, ◌≢◌, ℕ, ◌+◌, ◌==◌, ◌⊎◌, inl, inr, Bool, true, false, ◌||◌, if◌then◌else◌, List, [], ◌∷◌, ◌++◌, length, get_or, map, refl, sym, ap, ap₂, ◌∙◌, subst, arith, append_assoc, eqb-true}
 use Rattle.std.proofs.lemmas.Bool.{false≢true}
 use Rattle.std.proofs.lemmas.List.{append_cancel_left}
 use Rattle.std.specs.List.{AllByRecursion}
 use Rattle.std.specs.Char.{is_ascii_alphabetic}
-use Rattle.rule_lang.specs.declared.token.Token.{Token}
 use Rattle.rule_lang.specs.declared.token.TokenKind.{TokenKind}
 use Rattle.rule_lang.specs.declared.token.TokenKind.TheVariants as kind
 use Rattle.rule_lang.specs.Grammar.{IsValueText, part_character}
-use Rattle.rule_lang.specs.Tokens.{is_blank, AreBlank, Part, character, pair, part_text, parts_text, IsPart, IsGoodPart, IsSpelled, Lexes, AreTokens, BeginsNone, IsUnclosed, HasBadEscape, IsFaultAt, FailsAt}
+use Rattle.rule_lang.specs.Tokens.{is_blank, AreBlank, Part, character, pair, parts_text, IsPart, IsGoodPart, IsSpelled, BeginsNone, IsUnclosed, HasBadEscape, IsFaultAt}
 
 -- ---- lists
 

@@ -1,29 +1,28 @@
 -- A text has one outcome.
-use Rattle.std.proofs.Common.{◌≡◌, ◌≢◌, ℕ, ◌+◌, ◌<◌, ◌≤◌, ◌⊎◌, inl, inr, true, IsTrue, Option, Some, None, List, [], ◌∷◌, ◌++◌, length, get_or, map, refl, sym, ap, ap₂, ◌∙◌, subst, arith, append_assoc, append-nil, find, Result, Ok, Err}
+use Rattle.std.proofs.Common.{◌≡◌, ℕ, ◌+◌, ◌<◌, ◌≤◌, ◌⊎◌, inl, inr, Some, List, [], ◌∷◌, ◌++◌, length, refl, sym, ap, ap₂, ◌∙◌, subst, arith, append_assoc, append-nil, find, Result, Ok, Err}
 use Rattle.std.proofs.lemmas.Slice.Eq.{bytes_eq-Decides}
 use Rattle.std.specs.List.{AllByRecursion}
 use Rattle.std.specs.Str.{str_to_ascii_lowercase, bytes_eq}
 use Rattle.rule_lang.specs.declared.token.Token.{Token}
 use Rattle.rule_lang.specs.declared.token.TokenKind.{TokenKind}
 use Rattle.rule_lang.specs.declared.matcher.Matcher.{Matcher}
-use Rattle.rule_lang.specs.declared.matcher.Matcher.TheVariants.{Header, HeaderRegexp, Host, HostRegexp, Method, Path, PathPrefix, PathRegexp, Query, QueryRegexp, ClientIp}
+use Rattle.rule_lang.specs.declared.matcher.Matcher.TheVariants.{Header, Query}
 use Rattle.rule_lang.specs.declared.read.RuleFault.{RuleFault}
 use Rattle.rule_lang.specs.declared.read.RuleFault.TheVariants as fault
 use Rattle.rule_lang.specs.declared.call.CallFault.{CallFault}
 use Rattle.rule_lang.specs.declared.call.CallFault.TheVariants as call_fault
-use Rattle.rule_lang.specs.Tokens.{AreBlank, IsSpelled, Lexes, AreTokens, BeginsNone, IsUnclosed, HasBadEscape, IsFaultAt, FailsAt, parts_text, pair}
-use Rattle.rule_lang.specs.Grammar.{IsValueText, part_character}
+use Rattle.rule_lang.specs.Tokens.{AreBlank, Lexes, AreTokens, IsFaultAt, FailsAt}
 use Rattle.rule_lang.specs.Matchers.{IsNamed, name_of_matcher, matchers, first_named, TakesCount, TakesKey, TakesValue}
 use Rattle.rule_lang.specs.Trees.{Tree, call, negation, both, either}
 use Rattle.rule_lang.specs.Forms.{CallTokens, Form, called, negated, grouped, joined, chosen, IsRule, BeginsRule, form_depth, form_calls}
-use Rattle.rule_lang.specs.Calls.{token_text, HasValue, HasOne, HasBoth, CallMeans, IsGoodCall, IsCallFault, HasBadValue, IsRefusal, first_start, last_start}
-use Rattle.rule_lang.specs.Faults.{IsUnexpectedToken, IsUnexpected, FirstCallFault}
-use Rattle.rule_lang.specs.Reading.{HasForm, Means, IsReadAs, IsUnexpectedAt, HasCallFault, IsRuleFault, IsOutcome, WantsMemory}
+use Rattle.rule_lang.specs.Calls.{token_text, HasOne, HasBoth, CallMeans, IsGoodCall, IsCallFault, HasBadValue, IsRefusal, first_start, last_start}
+use Rattle.rule_lang.specs.Faults.{IsUnexpected, FirstCallFault}
+use Rattle.rule_lang.specs.Reading.{Means, HasCallFault, IsOutcome, WantsMemory}
 use Rattle.rule_lang.proofs.Quotes.{all-append}
 use Rattle.rule_lang.proofs.Texts.{all_right}
 use Rattle.rule_lang.proofs.Building.{one_form}
 use Rattle.rule_lang.proofs.Expecting.{begins_shorter}
-use Rattle.rule_lang.proofs.Alone.{IsNoBlank, spelled_no_blank, blank_not, same_blanks, same_token, fault_not_spelled, same_fault, value_same, no_blank_of_fault}
+use Rattle.rule_lang.proofs.Alone.{spelled_no_blank, blank_not, same_blanks, same_token, fault_not_spelled, same_fault, value_same, no_blank_of_fault}
 
 -- ---- tokens
 
@@ -120,6 +119,7 @@ same_place {X} (c ∷ a) (d ∷ b) x y r s e = more (same_place a b x y r s (let
   where
     here : c ≡ d
     here = cc
+
     more : SamePlace a x b y → SamePlace (c ∷ a) x (d ∷ b) y
     more (inl (same, is)) = inl (ap₂ ◌∷◌ here same, is)
     more (inr (inl (m, is))) = inr (inl (m, ap₂ ◌∷◌ (sym here) is))

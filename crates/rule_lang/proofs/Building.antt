@@ -1,5 +1,5 @@
 -- What the steps put together is the form's.
-use Rattle.std.proofs.Common.{◌≡◌, ℕ, zero, suc, ◌+◌, ◌⊎◌, inl, inr, true, false, Option, Some, None, List, [], ◌∷◌, ◌++◌, refl, sym, ap, ◌∙◌, subst, add-one, append_assoc, append-nil}
+use Rattle.std.proofs.Common.{◌≡◌, ℕ, zero, suc, ◌+◌, inl, inr, true, Option, Some, None, List, [], ◌∷◌, ◌++◌, refl, sym, ap, ◌∙◌, add-one, append_assoc, append-nil}
 use Rattle.std.proofs.lemmas.Bool.{false≢true}
 use Rattle.rule_lang.specs.declared.token.Token.{Token}
 use Rattle.rule_lang.specs.declared.token.TokenKind.{TokenKind}
@@ -9,7 +9,7 @@ use Rattle.rule_lang.specs.declared.print.Level.TheVariants as level
 use Rattle.rule_lang.specs.Prints.{and_is_bare, or_is_bare}
 use Rattle.rule_lang.specs.Values.{tokens_call}
 use Rattle.rule_lang.specs.Forms.{CallTokens, Form, called, negated, grouped, joined, chosen, IsValueToken, AreMoreValues, AreSeparated, IsCall, Parses, parses_call, parses_not, parses_group, parses_and, parses_or, IsRule, form_calls}
-use Rattle.rule_lang.specs.Builds.{Making, made, Layer, empty_layer, not_times, and_with, put, whole_of, put_or, Build, build_at, build_left, build_step_of, build_step, build_steps, CallScan, scan_step_of, scan_step, scan_steps, scan_start, scan_close}
+use Rattle.rule_lang.specs.Builds.{Making, made, Layer, empty_layer, not_times, and_with, put, whole_of, Build, build_at, build_left, build_step_of, build_step, build_steps, CallScan, scan_step_of, scan_step, scan_steps, scan_start, scan_close}
 
 pub build_append : {X : Type 0} (m : Making X) (c : CallTokens → X) (b : Build X) (xs ys : List Token) → build_steps m c b (xs ++ ys) ≡ build_steps m c (build_steps m c b xs) ys
 build_append m c b [] ys = refl
@@ -109,13 +109,18 @@ parse_built m c at ts f (parses_and _ left right mark g h bare is p q) =
     ∙ parse_built m c level.Unary right h q (chain_at ors (Some (made m c g))) o)
 parse_built m c at ts f (parses_or _ left right mark g h bare is p q) =
     claim_or m c at (left ++ mark ∷ right) (chosen g h) bare (λ o.
-    let (ors, (ands, whole, steps)) = parse_built m c level.Or left g p o in
-    (Some (made m c g), (made m c h, refl,
-    build_append m c (build_at empty_layer o) left (mark ∷ right)
-    ∙ ap (λ b. build_steps m c b (mark ∷ right)) steps
-    ∙ kind_step m c (build_at (chain_at ors (Some ands)) o) mark kind.Or right is
-    ∙ ap (λ w. build_steps m c (build_at (chain_at w None) o) right) whole
-    ∙ parse_built m c level.And right h q (Some (made m c g)) o)))
+    let (ors, (ands, whole, steps)) = parse_built m c level.Or left g p o in (
+      Some (made m c g),
+      (
+        made m c h,
+        refl,
+        build_append m c (build_at empty_layer o) left (mark ∷ right)
+            ∙ ap (λ b. build_steps m c b (mark ∷ right)) steps
+            ∙ kind_step m c (build_at (chain_at ors (Some ands)) o) mark kind.Or right is
+            ∙ ap (λ w. build_steps m c (build_at (chain_at w None) o) right) whole
+            ∙ parse_built m c level.And right h q (Some (made m c g)) o,
+      ),
+    ))
 
 abbrev pub build_start : {X : Type 0} → Build X
 build_start = build_at empty_layer []

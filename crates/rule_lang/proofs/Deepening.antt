@@ -1,5 +1,5 @@
 -- The depth that the steps measure is that of the rule.
-use Rattle.std.proofs.Common.{◌≡◌, ℕ, zero, suc, ◌+◌, ◌≤◌, max, ◌⊎◌, inl, inr, true, false, List, [], ◌∷◌, ◌++◌, refl, sym, ap, ◌∙◌, arith, Bool}
+use Rattle.std.proofs.Common.{◌≡◌, ℕ, ◌+◌, ◌≤◌, max, inl, inr, true, false, List, [], ◌∷◌, ◌++◌, refl, sym, ap, ◌∙◌, arith, Bool}
 use Rattle.std.proofs.lemmas.Bool.{false≢true}
 use Rattle.std.specs.List.{AllByRecursion}
 use Rattle.rule_lang.specs.declared.token.Token.{Token}
@@ -8,7 +8,7 @@ use Rattle.rule_lang.specs.declared.token.TokenKind.TheVariants as kind
 use Rattle.rule_lang.specs.declared.print.Level.{Level}
 use Rattle.rule_lang.specs.declared.print.Level.TheVariants as level
 use Rattle.rule_lang.specs.Prints.{and_is_bare, or_is_bare}
-use Rattle.rule_lang.specs.Forms.{CallTokens, Form, called, negated, grouped, joined, chosen, IsValueToken, AreMoreValues, AreSeparated, IsCall, Parses, parses_call, parses_not, parses_group, parses_and, parses_or, IsRule, form_depth}
+use Rattle.rule_lang.specs.Forms.{CallTokens, Form, IsValueToken, AreMoreValues, AreSeparated, IsCall, Parses, parses_call, parses_not, parses_group, parses_and, parses_or, IsRule, form_depth}
 use Rattle.rule_lang.specs.Depths.{Depths, depth_step, depth_steps, depth_start, depth_opened, depth_closed, depth_left}
 
 pub depths_append : (d : Depths) (xs ys : List Token) → depth_steps d (xs ++ ys) ≡ depth_steps (depth_steps d xs) ys

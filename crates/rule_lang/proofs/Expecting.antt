@@ -9,10 +9,9 @@ use Rattle.rule_lang.specs.declared.print.Level.TheVariants as level
 use Rattle.rule_lang.specs.declared.expect.Next.{Next}
 use Rattle.rule_lang.specs.declared.expect.Next.TheVariants as next
 use Rattle.rule_lang.specs.declared.expect.Progress.{Progress}
-use Rattle.rule_lang.specs.Prints.{and_is_bare, or_is_bare}
 use Rattle.rule_lang.specs.Forms.{CallTokens, Form, called, negated, grouped, joined, chosen, IsValueToken, AreMoreValues, AreSeparated, IsCall, Parses, parses_call, parses_not, parses_group, parses_and, parses_or, IsRule, BeginsRule}
 use Rattle.rule_lang.specs.Expects.{at_next, closes, stepped_at, stepped, step_from, steps_from, at_start, is_whole_at}
-use Rattle.rule_lang.specs.Faults.{IsUnexpectedToken, IsUnexpected}
+use Rattle.rule_lang.specs.Faults.{IsUnexpected}
 
 -- ---- steps over lists
 
@@ -111,6 +110,7 @@ chain_rule tokens c = go c.before
   where
     P : List Token → Type 0
     P l = (f : Form) × IsRule l f
+
     go : (c.ors ≡ []) ⊎ ((rule : List Token) × ((mark : Token) × ((f : Form) × (c.ors ≡ rule ++ mark ∷ []) × (mark.kind ≡ kind.Or) × Parses level.Or rule f))) → P tokens
     go (inl none) = subst P (sym (c.tokens_are ∙ ap (λ l. l ++ c.last) none)) (c.form, and_up c.last c.form c.is_and)
     go (inr (rule, (mark, (f, is, is_or, p)))) =
@@ -289,7 +289,7 @@ reaches : (tokens front : List Token) (p q : Progress) → steps_from (Some p) t
 unfolding IsReached
 reaches [] front p q e r = subst (λ l. Reached q.next q.groups l) (sym (append-nil front)) (arrive p q front e r)
 reaches (t ∷ tokens) front p q e r = further (stepped p t.kind) refl e
-  (λ s f at. reaches tokens f s q)
+    (λ s f at. reaches tokens f s q)
   where
     further : (s : Option Progress) → stepped p t.kind ≡ s → steps_from s tokens ≡ Some q
         → ((s : Progress) (f : List Token) (at : ℕ) → steps_from (Some s) tokens ≡ Some q → IsReached s f → IsReached q (f ++ tokens)) → IsReached q (front ++ t ∷ tokens)

@@ -1,5 +1,5 @@
 -- A rule while it is put together.
-use Rattle.std.proofs.Common.{◌≡◌, ℕ, zero, suc, ◌+◌, ◌<◌, ◌≤◌, ◌⊎◌, inl, inr, Option, Some, None, MatchOption, List, [], ◌∷◌, ◌++◌, length, get_or, take, drop, refl, sym, ap, ◌∙◌, subst, arith, append_assoc, Result, Ok, Err, IfOk, OnOk}
+use Rattle.std.proofs.Common.{◌≡◌, ℕ, zero, suc, ◌+◌, ◌<◌, ◌≤◌, inl, inr, Option, Some, None, List, [], ◌∷◌, ◌++◌, length, get_or, refl, sym, ap, ◌∙◌, subst, arith, append_assoc, Result, Ok, Err, IfOk, OnOk}
 use Rattle.std.specs.List.{AllByRecursion}
 use Rattle.rule_lang.specs.declared.token.Token.{Token}
 use Rattle.rule_lang.specs.declared.token.TokenKind.{TokenKind}
@@ -12,7 +12,7 @@ use Rattle.rule_lang.specs.Trees.{Tree, tree_of}
 use Rattle.rule_lang.specs.Calls.{IsGoodCall, IsCallFault}
 use Rattle.rule_lang.specs.Values.{Stands, StandsAsValue, tokens_call, IsRightCall}
 use Rattle.rule_lang.specs.Faults.{FirstCallFault, IsFirstCallFault}
-use Rattle.rule_lang.specs.Builds.{Making, Layer, empty_layer, put, whole_of, Build, build_open, build_left, build_close, build_step_of, build_step, build_steps, CallScan, scan_step_of, scan_step, scan_steps, scan_start, scan_close, form_tree}
+use Rattle.rule_lang.specs.Builds.{Making, Layer, whole_of, Build, build_open, build_left, build_close, build_step_of, build_step, build_steps, CallScan, scan_step_of, scan_step, scan_steps, scan_start, scan_close, form_tree}
 use Rattle.rule_lang.specs.Builders.{TokensStand, EndsRight, EndsWrong}
 use Rattle.rule_lang.proofs.Quotes.{all-append}
 use Rattle.rule_lang.proofs.Building.{build_append, build_start, scan_append, scan_grows, whole_scanned, some_same}

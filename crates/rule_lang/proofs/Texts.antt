@@ -1,5 +1,5 @@
 -- A text whose tokens are a form is a text of its rule.
-use Rattle.std.proofs.Common.{◌≡◌, ◌≢◌, ℕ, ◌+◌, ◌⊎◌, inl, inr, true, List, [], ◌∷◌, ◌++◌, length, refl, sym, ap, ap₂, ◌∙◌, subst, arith, append_assoc, append-nil, length-append}
+use Rattle.std.proofs.Common.{◌≡◌, ℕ, ◌+◌, inl, inr, true, List, [], ◌∷◌, ◌++◌, length, refl, sym, ap, ap₂, ◌∙◌, subst, arith, append_assoc, append-nil, length-append}
 use Rattle.std.specs.List.{AllByRecursion}
 use Rattle.rule_lang.specs.declared.token.Token.{Token}
 use Rattle.rule_lang.specs.declared.token.TokenKind.{TokenKind}
@@ -8,17 +8,16 @@ use Rattle.rule_lang.specs.declared.matcher.Matcher.{Matcher}
 use Rattle.rule_lang.specs.declared.matcher.Matcher.TheVariants.{Header, HeaderRegexp, Host, HostRegexp, Method, Path, PathPrefix, PathRegexp, Query, QueryRegexp, ClientIp}
 use Rattle.rule_lang.specs.declared.print.Level.{Level}
 use Rattle.rule_lang.specs.declared.print.Level.TheVariants as level
-use Rattle.rule_lang.specs.Tokens.{is_blank, AreBlank, IsSpelled, Lexes, AreTokens}
+use Rattle.rule_lang.specs.Tokens.{AreBlank, IsSpelled, Lexes, AreTokens}
 use Rattle.rule_lang.specs.Matchers.{IsNamed, TakesCount}
 use Rattle.rule_lang.specs.Trees.{Tree, call, negation, both, either}
 use Rattle.rule_lang.specs.Prints.{and_is_bare, or_is_bare}
 use Rattle.rule_lang.specs.Grammar.{IsValueText, IsValue, AreTwoValues, AreValues, Calls, Reads, reads_call, reads_not, reads_group, reads_and, reads_or, reads_after_blank, reads_before_blank, IsRuleText}
-use Rattle.rule_lang.specs.Forms.{CallTokens, Form, called, negated, grouped, joined, chosen, AreMoreValues, AreSeparated, IsCall, Parses, parses_call, parses_not, parses_group, parses_and, parses_or, IsRule, form_calls}
-use Rattle.rule_lang.specs.Calls.{token_text, HasValue, HasOne, HasBoth, CallMeans}
+use Rattle.rule_lang.specs.Forms.{CallTokens, Form, called, negated, grouped, joined, chosen, AreSeparated, IsCall, Parses, parses_call, parses_not, parses_group, parses_and, parses_or, IsRule, form_calls}
+use Rattle.rule_lang.specs.Calls.{token_text, HasValue, HasOne, HasBoth}
 use Rattle.rule_lang.specs.Values.{Stands, IsRightCall, call_tree}
 use Rattle.rule_lang.specs.Builds.{form_tree}
 use Rattle.rule_lang.specs.Reading.{Means}
-use Rattle.rule_lang.proofs.Quotes.{all-append}
 use Rattle.rule_lang.proofs.Valuing.{token_text_is}
 
 -- ---- places
@@ -171,13 +170,12 @@ call_values : (whole : List ℕ) (m : Matcher) (values between : List Token) (pl
 call_values whole m [] between place stop text after key value p separated count has l = absurd has
 call_values whole m (t ∷ []) between place stop text after key value p (others, split, is_value, none) count has l =
     let all : Lexes place text (t ∷ []) stop after = subst (λ ts. Lexes place text ts stop after) (split ∙ ap (λ r. t ∷ r) none) l in
-    let x = lexed whole text t.kind t [] place stop after refl p all in
-    (
+    let x = lexed whole text t.kind t [] place stop after refl p all in (
       x.blanks ++ x.spelled,
       ends_text text (x.blanks ++ x.spelled) x.rest after x.text_is x.lexes.0,
       x.lexes.1 ∙ x.further,
       λ more blank. one_values whole m t ((x.blanks ++ x.spelled) ++ more) key value count has
-      (λ v h. one_value_text x.blanks x.spelled more v x.blank blank (subst (λ s. IsValueText s v) x.spelled_is h)),
+          (λ v h. one_value_text x.blanks x.spelled more v x.blank blank (subst (λ s. IsValueText s v) x.spelled_is h)),
     )
 call_values whole m (t ∷ u ∷ []) between place stop text after key value p (others, split, is_value, (comma, (rest, cut, is_comma, is_second, none))) count has l =
     let all : Lexes place text (t ∷ comma ∷ u ∷ []) stop after =
@@ -197,8 +195,7 @@ call_values whole m (t ∷ u ∷ []) between place stop text after key value p (
       is_key = one_value_text x.blanks x.spelled y.blanks key x.blank y.blank (subst (λ s. IsValueText s key) x.spelled_is has.0);
       is_value = one_value_text z.blanks z.spelled more value z.blank blank (subst (λ s. IsValueText s value) z.spelled_is has.1);
       text_is = comma_text last y.blanks y.spelled end_ more y.is_spelled;
-    } in
-    (
+    } in (
       last ++ (mid ++ end_),
       two_parts text last x.rest (mid ++ end_) after x.text_is (two_parts x.rest mid y.rest end_ after y.text_is end_text),
       two_lengths place t.end stop last (mid ++ end_) x.further (two_lengths t.end comma.end stop mid end_ y.further end_stop),
@@ -253,15 +250,14 @@ call_reads at tokens c whole place stop text after is p l (m, (key, value, means
       takes_value = means.takes_value;
       text_is = refl;
     } in
-    let reads = blanks_before at x.blanks (x.spelled ++ (y.blanks ++ 40 ∷ ((values ++ z.blanks) ++ 41 ∷ []))) (call m key value) x.blank (reads_call at _ m key value named) in
-    (
+    let reads = blanks_before at x.blanks (x.spelled ++ (y.blanks ++ 40 ∷ ((values ++ z.blanks) ++ 41 ∷ []))) (call m key value) x.blank (reads_call at _ m key value named) in (
       xs ++ (ys ++ (values ++ zs)),
       two_parts text xs x.rest (ys ++ (values ++ zs)) after x.text_is
-      (two_parts x.rest ys y.rest (values ++ zs) after y.text_is (two_parts y.rest values inner zs after inner_is z_text)),
+          (two_parts x.rest ys y.rest (values ++ zs) after y.text_is (two_parts y.rest values inner zs after inner_is z_text)),
       two_lengths place c.name.end stop xs (ys ++ (values ++ zs)) x.further
-      (two_lengths c.name.end is.opening.end stop ys (values ++ zs) y.further (two_lengths is.opening.end mid stop values zs further z_stop)),
+          (two_lengths c.name.end is.opening.end stop ys (values ++ zs) y.further (two_lengths is.opening.end mid stop values zs further z_stop)),
       subst (Reads at (xs ++ (ys ++ (values ++ zs)))) (sym tree)
-      (subst (λ t. Reads at t (call m key value)) (call_text x.blanks x.spelled y.blanks y.spelled values z.blanks z.spelled y.is_spelled z.is_spelled) reads),
+          (subst (λ t. Reads at t (call m key value)) (call_text x.blanks x.spelled y.blanks y.spelled values z.blanks z.spelled y.is_spelled z.is_spelled) reads),
     )
 
 not_reads : (at : Level) (b c own : List ℕ) (r : Tree) → c ≡ 33 ∷ [] → AreBlank b → Reads level.Unary own r → Reads at ((b ++ c) ++ own) (negation r)
@@ -296,8 +292,7 @@ parse_reads at tokens f whole place stop text after (parses_call _ _ c is) p l r
 parse_reads at tokens f whole place stop text after (parses_not _ mark inner g is q) p l right =
     let x = lexed whole text kind.Not mark inner place stop after is p l in
     let (own, split, further, reads) = parse_reads level.Unary inner g whole mark.end stop x.rest after q x.placed x.lexes right in
-    let xs = x.blanks ++ x.spelled in
-    (
+    let xs = x.blanks ++ x.spelled in (
       xs ++ own,
       two_parts text xs x.rest own after x.text_is split,
       two_lengths place mark.end stop xs own x.further further,
@@ -311,8 +306,7 @@ parse_reads at tokens f whole place stop text after (parses_group _ opening clos
     let xs = x.blanks ++ x.spelled in
     let ys = y.blanks ++ y.spelled in
     let y_text = ends_text rest ys y.rest after y.text_is y.lexes.0 in
-    let y_stop : stop ≡ mid + length ys = y.lexes.1 ∙ y.further in
-    (
+    let y_stop : stop ≡ mid + length ys = y.lexes.1 ∙ y.further in (
       xs ++ (own ++ ys),
       two_parts text xs x.rest (own ++ ys) after x.text_is (two_parts x.rest own rest ys after split y_text),
       two_lengths place opening.end stop xs (own ++ ys) x.further (two_lengths opening.end mid stop own ys further y_stop),
@@ -323,8 +317,7 @@ parse_reads at tokens f whole place stop text after (parses_and _ left right_tok
     let (own, split, further, reads) = parse_reads level.And left g whole place mid text rest q p first (all_left (IsRightCall whole) (form_calls g) (form_calls h) right) in
     let y = lexed whole rest kind.And mark right_tokens mid stop after is (placed_more whole text own rest place mid split further p) second in
     let (own2, split2, further2, reads2) = parse_reads level.Unary right_tokens h whole mark.end stop y.rest after r y.placed y.lexes (all_right (IsRightCall whole) (form_calls g) (form_calls h) right) in
-    let ys = y.blanks ++ y.spelled in
-    (
+    let ys = y.blanks ++ y.spelled in (
       own ++ (ys ++ own2),
       two_parts text own rest (ys ++ own2) after split (two_parts rest ys y.rest own2 after y.text_is split2),
       two_lengths place mid stop own (ys ++ own2) further (two_lengths mid mark.end stop ys own2 y.further further2),
@@ -335,8 +328,7 @@ parse_reads at tokens f whole place stop text after (parses_or _ left right_toke
     let (own, split, further, reads) = parse_reads level.Or left g whole place mid text rest q p first (all_left (IsRightCall whole) (form_calls g) (form_calls h) right) in
     let y = lexed whole rest kind.Or mark right_tokens mid stop after is (placed_more whole text own rest place mid split further p) second in
     let (own2, split2, further2, reads2) = parse_reads level.And right_tokens h whole mark.end stop y.rest after r y.placed y.lexes (all_right (IsRightCall whole) (form_calls g) (form_calls h) right) in
-    let ys = y.blanks ++ y.spelled in
-    (
+    let ys = y.blanks ++ y.spelled in (
       own ++ (ys ++ own2),
       two_parts text own rest (ys ++ own2) after split (two_parts rest ys y.rest own2 after y.text_is split2),
       two_lengths place mid stop own (ys ++ own2) further (two_lengths mid mark.end stop ys own2 y.further further2),

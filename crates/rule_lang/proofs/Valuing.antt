@@ -1,8 +1,7 @@
 -- The values of tokens, and what is made of a call's.
-use Rattle.std.proofs.Common.{◌≡◌, ◌≢◌, ℕ, ◌+◌, ◌-◌, ◌<◌, ◌≤◌, ◌⊎◌, inl, inr, true, false, List, [], ◌∷◌, ◌++◌, length, take, drop, get_or, map, refl, sym, ap, ap₂, ◌∙◌, subst, arith, append_assoc, length-append, ne_eqb, drop_at, take_at, Result, Ok, Err, Some, IfOk, IfErr, OnOk}
+use Rattle.std.proofs.Common.{◌≡◌, ℕ, ◌+◌, ◌-◌, ◌<◌, ◌≤◌, inl, inr, false, List, [], ◌∷◌, ◌++◌, length, take, drop, get_or, map, refl, sym, ap, ap₂, ◌∙◌, subst, arith, append_assoc, length-append, ne_eqb, drop_at, take_at, Result, Ok, Err, Some, IfOk, IfErr, OnOk}
 use Rattle.std.specs.List.{AllByRecursion}
 use Rattle.rule_lang.specs.declared.token.Token.{Token}
-use Rattle.rule_lang.specs.declared.token.TokenKind.{TokenKind}
 use Rattle.rule_lang.specs.declared.token.TokenKind.TheVariants as kind
 use Rattle.rule_lang.specs.declared.matcher.Matcher.{Matcher}
 use Rattle.rule_lang.specs.declared.matcher.Matcher.TheVariants.{Query}
@@ -12,7 +11,7 @@ use Rattle.rule_lang.specs.declared.call.CallFault.TheVariants as fault
 use Rattle.rule_lang.specs.Tokens.{Part, character, pair, parts_text, IsGoodPart, IsSpelled}
 use Rattle.rule_lang.specs.Grammar.{part_character}
 use Rattle.rule_lang.specs.Matchers.{IsNamed, TakesCount, TakesKey, TakesValue}
-use Rattle.rule_lang.specs.Trees.{Tree, call}
+use Rattle.rule_lang.specs.Trees.{call}
 use Rattle.rule_lang.specs.Forms.{CallTokens, IsValueToken}
 use Rattle.rule_lang.specs.Calls.{token_text, HasValue, HasOne, HasBoth, IsRefusal, IsCallFault, first_start, last_start}
 use Rattle.rule_lang.specs.Values.{Stands, StandsAsValue, unescaped, unquoted, body_of, token_value, one_tree, tree_at, IsLeafOf, IsRefusalOf, IsFaultOf}
@@ -85,10 +84,14 @@ pub refused_of : (text : List ℕ) (m n : Matcher) (tokens : List Token) (key va
     → IfErr r (IsRefusal n key value at to) → IfErr r (IsRefusalOf text m tokens)
 refused_of text m n tokens key value at to (Ok l) same has first last refused = tt
 refused_of text m n tokens key value at to (Err fault.Memory) same has first last refused = tt
-refused_of text m n tokens key value at to (Err (fault.Value place)) same has first last refused =
-    (key, value, has, subst (λ x. IsRefusal x key value (first_start tokens) (last_start tokens) (fault.Value place)) same
-    (subst (λ a. IsRefusal n key value a (last_start tokens) (fault.Value place)) first
-    (subst (λ b. IsRefusal n key value at b (fault.Value place)) last refused)))
+refused_of text m n tokens key value at to (Err (fault.Value place)) same has first last refused = (
+  key,
+  value,
+  has,
+  subst (λ x. IsRefusal x key value (first_start tokens) (last_start tokens) (fault.Value place)) same
+      (subst (λ a. IsRefusal n key value a (last_start tokens) (fault.Value place)) first
+      (subst (λ b. IsRefusal n key value at b (fault.Value place)) last refused)),
+)
 refused_of text m n tokens key value at to (Err (fault.Arity place)) same has first last refused = absurd refused
 refused_of text m n tokens key value at to (Err (fault.UnknownMatcher place)) same has first last refused = absurd refused
 

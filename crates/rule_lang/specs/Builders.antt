@@ -1,5 +1,5 @@
 -- What contracts see of a rule that is put together.
-use Rattle.std.specs.Prelude.{ℕ, List, Option, Some, None, MatchOption, reverse, map}
+use Rattle.std.specs.Prelude.{ℕ, List, Option, Some, MatchOption, reverse, map}
 use Rattle.std.specs.Option.{option_map}
 use Rattle.std.specs.List.{AllByRecursion}
 use Rattle.rule_lang.specs.declared.token.Token.{Token}

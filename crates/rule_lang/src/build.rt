@@ -76,12 +76,7 @@ fn finish(alloc: Global, builder: Builder) -> Result<Rule, CallFault>
 }
 
 // One token more.
-fn step(
-    alloc: Global,
-    text: &[u8],
-    builder: Builder,
-    token: Token,
-) -> Result<Builder, CallFault>
+fn step(alloc: Global, text: &[u8], builder: Builder, token: Token) -> Result<Builder, CallFault>
     requires ready { TokensStand text.now builder.name builder.values.items }
     requires nots { builder.layer.nots + 1 < 2 ^ 64 }
     ensures next { IfOk result (λ b. build_of b ≡ build_step trees (call_tree text.now) (build_of builder) token) }
@@ -314,10 +309,7 @@ fn and_with(alloc: Global, left: Option<Rule>, right: Rule) -> Result<Rule, Memo
     ensures { IfOk result (λ r. tree_of r ≡ and_of_option trees (option_map tree_of left) (tree_of right)) }
 {
     match left {
-        Some(left) => Ok(Rule::And(
-            Boxed::new(alloc, left)?,
-            Boxed::new(alloc, right)?,
-        )),
+        Some(left) => Ok(Rule::And(Boxed::new(alloc, left)?, Boxed::new(alloc, right)?)),
         None => Ok(right),
     }
 }
@@ -331,10 +323,7 @@ fn whole_group(alloc: Global, layer: Layer) -> Result<Option<Rule>, Memory>
         None => Ok(ands),
         Some(left) => match ands {
             None => Ok(Some(left)),
-            Some(right) => Ok(Some(Rule::Or(
-                Boxed::new(alloc, left)?,
-                Boxed::new(alloc, right)?,
-            ))),
+            Some(right) => Ok(Some(Rule::Or(Boxed::new(alloc, left)?, Boxed::new(alloc, right)?))),
         },
     }
 }

@@ -72,12 +72,7 @@ fn with_matcher(
     }
 }
 
-fn with_one(
-    alloc: Global,
-    text: &[u8],
-    matcher: Matcher,
-    token: Token,
-) -> Result<Leaf, CallFault>
+fn with_one(alloc: Global, text: &[u8], matcher: Matcher, token: Token) -> Result<Leaf, CallFault>
     requires token { StandsAsValue text.now token }
     requires count { TakesCount matcher 1 }
     ensures leaf { IfOk result (IsLeafOf text.now matcher (token ∷ [])) }

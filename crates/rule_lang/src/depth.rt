@@ -56,11 +56,8 @@ fn measure(gauge: &mut Gauge, kind: TokenKind) -> Result<(), Memory>
             measure_close(gauge);
             Ok(())
         }
-        TokenKind::Or
-        | TokenKind::And
-        | TokenKind::Comma
-        | TokenKind::Raw
-        | TokenKind::Quoted => Ok(()),
+        TokenKind::Or | TokenKind::And | TokenKind::Comma | TokenKind::Raw | TokenKind::Quoted =>
+            Ok(()),
     }
 }
 

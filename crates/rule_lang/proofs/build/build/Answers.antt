@@ -1,11 +1,9 @@
-use Rattle.std.proofs.Common.{◌≡◌, ◌+◌, ◌++◌, ◌∷◌, [], List, Some, subst, sym, ap, ◌∙◌, arith, take, drop, get_or, length}
+use Rattle.std.proofs.Common.{◌≡◌, ◌+◌, ◌++◌, ◌∷◌, [], subst, sym, ap, ◌∙◌, take, get_or}
 use Rattle.std.proofs.lemmas.List.{take_more, take_all}
 use Rattle.std.proofs.Math.Seq.{split_at}
 use Rattle.std.specs.List.{AllByRecursion}
 use Rattle.rule_lang.specs.declared.token.TokenKind.TheVariants as kind
-use Rattle.rule_lang.specs.declared.token.Token.{Token}
-use Rattle.rule_lang.specs.Trees.{Tree}
-use Rattle.rule_lang.specs.Forms.{Form, IsRule}
+use Rattle.rule_lang.specs.Forms.{IsRule}
 use Rattle.rule_lang.specs.Values.{Stands, call_tree, IsRightCall}
 use Rattle.rule_lang.specs.Builds.{trees, whole_of, Build, build_steps, scan_steps, scan_start, form_tree}
 use Rattle.rule_lang.specs.Builders.{build_of, TokensStand}

@@ -1,4 +1,4 @@
-use Rattle.std.proofs.Common.{◌∷◌, [], refl, ap, ◌∙◌, sym}
+use Rattle.std.proofs.Common.{◌∷◌, [], refl, ap, ◌∙◌}
 use Rattle.rule_lang.specs.Values.{one_tree}
 use Rattle.rule_lang.proofs.Valuing.{one_has, refused_of, leaf_of_checked}
 use Rattle.rule_lang.proofs.call.with_one.Goals as goal

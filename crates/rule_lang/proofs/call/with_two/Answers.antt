@@ -1,4 +1,4 @@
-use Rattle.std.proofs.Common.{◌∷◌, [], refl, ap₂, ◌∙◌, sym}
+use Rattle.std.proofs.Common.{◌∷◌, [], refl, ap₂}
 use Rattle.rule_lang.specs.declared.rule.Leaf.{Leaf}
 use Rattle.rule_lang.specs.Trees.{call}
 use Rattle.rule_lang.proofs.Valuing.{two_have, refused_of, leaf_of_checked}

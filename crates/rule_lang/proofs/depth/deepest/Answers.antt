@@ -1,4 +1,4 @@
-use Rattle.std.proofs.Common.{◌≡◌, ◌+◌, sym, subst, ap, ◌∙◌, take, get_or, length, arith, List}
+use Rattle.std.proofs.Common.{◌≡◌, ◌+◌, sym, subst, ap, ◌∙◌, take, get_or}
 use Rattle.std.proofs.lemmas.List.{take_more, take_all}
 use Rattle.rule_lang.specs.declared.token.TokenKind.TheVariants as kind
 use Rattle.rule_lang.specs.Depths.{depth_steps, depth_start, Depths}
