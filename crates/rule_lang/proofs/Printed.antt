@@ -1,6 +1,6 @@
 -- The print of a rule is a text of that rule.
-use Rattle.std.proofs.Common.{◌≡◌, ◌≢◌, ℕ, ◌⊎◌, inl, inr, Bool, true, false, ◌||◌, ◌==◌, List, [], ◌∷◌, ◌++◌, map, flat_map, refl, sym, ap, ap₂, ◌∙◌, subst, arith, append_assoc, append-nil, eq-eqb, ne_eqb, eqb-true}
-use Rattle.std.proofs.lemmas.Bool.{cond_both, cond-true, cond-false, cases_eq, false≢true}
+use Rattle.std.proofs.Common.{◌≡◌, ◌≢◌, ℕ, inl, inr, true, false, ◌||◌, ◌==◌, List, [], ◌∷◌, ◌++◌, map, flat_map, refl, sym, ap, ap₂, ◌∙◌, subst, append_assoc, append-nil, eq-eqb, ne_eqb}
+use Rattle.std.proofs.lemmas.Bool.{cond_both, cases_eq, false≢true}
 use Rattle.std.specs.List.{AllByRecursion, list_any}
 use Rattle.rule_lang.specs.declared.matcher.Matcher.{Matcher}
 use Rattle.rule_lang.specs.declared.matcher.Matcher.TheVariants.{Header, HeaderRegexp, Host, HostRegexp, Method, Path, PathPrefix, PathRegexp, Query, QueryRegexp, ClientIp}
@@ -8,8 +8,8 @@ use Rattle.rule_lang.specs.declared.print.Level.{Level}
 use Rattle.rule_lang.specs.declared.print.Level.TheVariants as level
 use Rattle.rule_lang.specs.Tokens.{Part, character, pair, part_text, parts_text, IsGoodPart}
 use Rattle.rule_lang.specs.Matchers.{IsNamed, name_of_matcher, TakesKey, TakesValue}
-use Rattle.rule_lang.specs.Prints.{escaped, value_print, pair_print, values_print, call_print, bracketed, and_is_bare, or_is_bare, print_at, rule_print}
-use Rattle.rule_lang.specs.Grammar.{part_character, IsValueText, IsValue, AreTwoValues, AreValues, Calls, Reads, reads_call, reads_not, reads_group, reads_and, reads_or, reads_after_blank, reads_before_blank, IsRuleText, HasItsKey, IsReadable}
+use Rattle.rule_lang.specs.Prints.{escaped, value_print, pair_print, values_print, call_print, bracketed, and_is_bare, or_is_bare, print_at}
+use Rattle.rule_lang.specs.Grammar.{part_character, IsValueText, IsValue, AreTwoValues, AreValues, Calls, Reads, reads_call, reads_not, reads_group, reads_and, reads_or, reads_after_blank, reads_before_blank, HasItsKey, IsReadable}
 use Rattle.rule_lang.specs.Trees.{Tree, call, negation, both, either}
 
 -- ---- values

@@ -2,7 +2,7 @@
 --   rule = and *( "||" and )    and = unary *( "&&" unary )
 --   unary = "!" unary / "(" rule ")" / call    call = name "(" value [ "," value ] ")"
 -- Both operators associate to the left, and blanks may stand round each token.
-use Rattle.std.specs.Prelude.{◌≡◌, ◌≢◌, ℕ, ◌⊎◌, Bool, true, IsTrue, List, [], ◌∷◌, ◌++◌, map, codes}
+use Rattle.std.specs.Prelude.{◌≡◌, ◌≢◌, ℕ, ◌⊎◌, true, List, [], ◌∷◌, ◌++◌, map}
 use Rattle.std.specs.List.{AllByRecursion}
 use Rattle.rule_lang.specs.declared.matcher.Matcher.{Matcher}
 use Rattle.rule_lang.specs.declared.matcher.Matcher.TheVariants.{Header, HeaderRegexp, Query, QueryRegexp}

@@ -74,3 +74,11 @@ fn is_named(name: &[u8], matcher: Matcher) -> bool
 {
     name.eq_ignore_ascii_case(name_of(matcher))
 }
+
+// The same, as the first that is named so.
+pub(crate) fn matcher_of(name: &[u8]) -> Option<Matcher>
+    ensures named { MatchOption result ((m : Matcher) → ¬ (IsNamed name.now m)) (IsNamed name.now) }
+    ensures first { result ≡ first_named name.now }
+{
+    first_of_them(name)
+}

@@ -1,8 +1,9 @@
 //! The whole rule language, beside the first form that `read_leaf` reads.
 pub use crate::check::{takes_count, takes_key, takes_value};
-pub use crate::law::prints_are_rule_texts;
+pub use crate::law::{outcomes_are_alone, prints_are_rule_texts};
 pub use crate::lex::{LexFault, read_tokens};
 pub use crate::matcher::{Matcher, matcher_named, name_of};
 pub use crate::print::{Level, print_rule};
+pub use crate::read::{RuleFault, read_rule};
 pub use crate::rule::{Leaf, Rule};
 pub use crate::token::{Token, TokenKind};
