@@ -107,7 +107,7 @@ impl Back {
         if let BackState::HeadRead = self.state {
             return Ok(self.take_content(piece, 0));
         }
-        let had = self.head.len();
+        let had = self.head.as_slice().len();
         match read_on(alloc, &mut self.head, piece, self.method.as_slice())? {
             Found::Head { reply, end } => {
                 self.left = length_of(reply.framing);

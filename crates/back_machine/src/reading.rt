@@ -1,5 +1,5 @@
 //! Finds the head of a reply at the front of a link's bytes.
-ghost use Rattle.std.specs.Prelude.{◌≡◌, ◌↔◌, ℕ, ◌<◌, ◌≤◌, ◌-◌, ◌++◌, length, take, IfOk, IsTrue};
+ghost use Rattle.std.specs.Prelude.{◌≡◌, ◌↔◌, ℕ, ◌<◌, ◌≤◌, ◌-◌, [], length, take, IfOk, IsTrue};
 ghost use Rattle.head_view.specs.Replies.{IsHeadWithin, AreHeadSpans};
 ghost use Rattle.back_machine.specs.Replies.{head_limit, line_limit, IsTakenFraming, content_length};
 ghost use Rattle.back_machine.specs.Readings.{Finds, KeepsPart, window};
@@ -41,17 +41,41 @@ pub(crate) fn read_on(
     ensures found { IfOk result (Finds method.now (window head.old.items piece.now)) }
     ensures kept { IfOk result (KeepsPart (window head.old.items piece.now) head.new.items) }
 {
-    let room = HEAD_LIMIT.saturating_sub(head.len());
-    let front = &piece[..room.min(piece.len())];
-    if head.is_empty() {
-        let found = find(alloc, front, method)?;
-        if let Found::Part = found {
-            head.extend_from_slice(front)?;
-        }
-        return Ok(found);
+    let front = front_of(piece, head.as_slice().len());
+    if head.as_slice().is_empty() {
+        return read_first(alloc, head, front, method);
     }
     head.extend_from_slice(front)?;
-    find(alloc, head, method)
+    find(alloc, head.as_slice(), method)
+}
+
+// What a head has room for, of which so many bytes came before.
+fn front_of(piece: &[u8], had: usize) -> &[u8]
+    ensures { result.now ≡ take (head_limit - had) piece.now }
+{
+    let room = HEAD_LIMIT.saturating_sub(had);
+    &piece[..room.min(piece.len())]
+}
+
+// Reads the first bytes.
+fn read_first(
+    alloc: Global,
+    head: &mut Vec<u8>,
+    front: &[u8],
+    method: &[u8],
+) -> Result<Found, Memory>
+    requires { head.old.items ≡ [] }
+    ensures found { IfOk result (Finds method.now front.now) }
+    ensures kept { IfOk result (KeepsPart front.now head.new.items) }
+{
+    match find(alloc, front, method)? {
+        Found::Head { reply, end } => Ok(Found::Head { reply, end }),
+        Found::Part => {
+            head.extend_from_slice(front)?;
+            Ok(Found::Part)
+        }
+        Found::Bad => Ok(Found::Bad),
+    }
 }
 
 // What stands at the front of the bytes.
@@ -80,7 +104,10 @@ fn take_head(
     requires head { AreHeadSpans line_limit gave.now room.now spans.now }
     ensures { IfOk result (Finds method.now gave.now) }
 {
-    if spans.len > HEAD_LIMIT || spans.status < 200 || spans.status > 599 {
+    if spans.len > HEAD_LIMIT {
+        return Ok(Found::Bad);
+    }
+    if spans.status < 200 || spans.status > 599 {
         return Ok(Found::Bad);
     }
     match take_reply(alloc, gave, room, spans, method) {
