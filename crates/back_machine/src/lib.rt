@@ -7,6 +7,8 @@ mod content;
 mod laws;
 mod reading;
 mod state;
+#[cfg(test)]
+mod tests;
 
 pub use back::{Back, Content};
 pub use laws::{cuts_do_not_matter, replies_are_unique};
