@@ -1,17 +1,16 @@
 -- How each call keeps what is said of an exchange.
-use Rattle.std.proofs.Common.{◌≡◌, ℕ, zero, suc, ◌+◌, ◌-◌, ◌<◌, ◌≤◌, ◌⊎◌, inl, inr, Bool, true, false, List, [], ◌∷◌, ◌++◌, length, take, drop, min, Option, Some, None, refl, sym, ap, ◌∙◌, subst, arith, append_assoc, length-append, if◌then◌else◌, ◌==◌}
+use Rattle.std.proofs.Common.{◌≡◌, ℕ, ◌+◌, ◌-◌, ◌<◌, ◌≤◌, inl, inr, Bool, true, false, List, [], ◌∷◌, ◌++◌, length, take, drop, min, Option, Some, None, refl, sym, ap, ◌∙◌, subst, arith, append_assoc, length-append, if◌then◌else◌, ◌==◌}
 use Rattle.std.proofs.lemmas.Bool.{cases_lt, eqb-true}
 use Rattle.std.proofs.lemmas.Bool.Decides.{eqb_tells}
-use Rattle.std.proofs.lemmas.List.{take_all, take-append-le, drop-append-le, take-append-drop, append-nil, length-take, length-drop}
+use Rattle.std.proofs.lemmas.List.{take_all, drop-append-le, take-append-drop, append-nil, length-take, length-drop}
 use Rattle.std.proofs.Math.Seq.{take-append-add, drop-append-add}
 use Rattle.http_wire.specs.declared.message.Reply.{Reply}
-use Rattle.back_machine.specs.Replies.{content_length, content_in, IsReplyAt, HasReply, HasNoReplyYet, HasNoReply, IsBegun, IsWhole, IsShort}
-use Rattle.back_machine.specs.Exchanges.{BackView, IsOpen, Receives, InUse, Waits, Continues, Ends, StateHolds, Exchanged, state_with, with_left}
+use Rattle.back_machine.specs.Replies.{content_length, content_in, IsReplyAt, HasReply, HasNoReplyYet, HasNoReply, IsBegun}
+use Rattle.back_machine.specs.Exchanges.{BackView, IsOpen, Receives, InUse, Waits, Continues, StateHolds, Exchanged, state_with, with_left}
 use Rattle.back_machine.specs.Readings.{window}
 use Rattle.back_machine.specs.declared.state.BackState.{BackState}
 use Rattle.back_machine.specs.declared.state.BackState.TheVariants.{Waiting, HeadRead, Done, Broken}
-use Rattle.back_machine.specs.declared.state.BackCause.{BackCause}
-use Rattle.back_machine.specs.declared.state.BackCause.TheVariants.{Failed, Bad, Ended}
+use Rattle.back_machine.specs.declared.state.BackCause.TheVariants.{Bad}
 use Rattle.back_machine.proofs.ReplyLemmas.{longer, head_within, reply_stays, one_reply, never_more, not_yet}
 
 -- the same bytes give the same reply with the same content

@@ -1,27 +1,27 @@
 -- Heads at the front of bytes that go on.
-use Rattle.std.proofs.Common.{◌≡◌, ℕ, ◌+◌, ◌-◌, ◌<◌, ◌≤◌, ◌⊎◌, inl, inr, List, [], ◌∷◌, ◌++◌, length, take, drop, map, min, refl, sym, ap, ◌∙◌, subst, arith, append_assoc, length-append, codes, Option, Some, None}
+use Rattle.std.proofs.Common.{◌≡◌, ℕ, ◌<◌, ◌≤◌, inl, inr, List, [], ◌∷◌, ◌++◌, length, take, drop, map, refl, sym, ap, ◌∙◌, subst, arith, append_assoc, length-append, None}
 use Rattle.std.proofs.lemmas.Bool.{cases_lt}
 use Rattle.std.proofs.lemmas.List.{take-append-le, drop-append-le, take-append-drop, append-nil}
 use Rattle.std.proofs.lemmas.List.Elements.{All-nil, All-cons}
 use Rattle.std.proofs.Math.Seq.{take-append_seam}
 use Rattle.std.specs.Char.{is_ascii_digit}
 use Rattle.std.specs.Prelude.{IsTrue}
-use Rattle.httparse.specs.Grammar.{ResponseHead, print_response, ReadsResponse, HasNoResponse, MayBecomeResponse, IsResponseHead, LineEnd, lf, status_code, reason_phrase, print_blank, print_version, print_reason, print_end, print_section}
-use Rattle.httparse.specs.Spans.{ResponseOverflows, IsResponseAt, span_bytes}
+use Rattle.httparse.specs.Grammar.{ResponseHead, print_response, ReadsResponse, HasNoResponse, IsResponseHead, lf, status_code, reason_phrase, print_blank, print_version, print_reason, print_end, print_section}
+use Rattle.httparse.specs.Spans.{ResponseOverflows, span_bytes}
 use Rattle.httparse.proofs.GrammarLemmas.{response_unique, response_prefix_free, ReadsResponse-append, print_response-append}
 use Rattle.httparse.specs.declared.spans.HeaderSpan.{HeaderSpan}
 use Rattle.body_codec.specs.declared.Framing.{Framing}
 use Rattle.head_view.specs.Lines.{Line as Field, lines_at}
-use Rattle.head_view.specs.Replies.{IsHeadAt, AreHeadSpans, spans_of}
+use Rattle.head_view.specs.Replies.{IsHeadAt}
 use Rattle.head_view.specs.declared.reply.ReplySpans.{ReplySpans}
 use Rattle.http_wire.specs.Fields.{field_of}
 use Rattle.http_wire.specs.Framing.{IsFramed}
-use Rattle.http_wire.specs.Replies.{IsReplyOf, IsReplyFault, HasNoFault}
+use Rattle.http_wire.specs.Replies.{IsReplyOf, IsReplyFault}
 use Rattle.http_wire.specs.declared.message.Line.{Line}
 use Rattle.http_wire.specs.declared.message.Reply.{Reply}
 use Rattle.http_wire.specs.declared.replies.ReplyFault.{ReplyFault}
 use Rattle.http_wire.specs.declared.replies.ReplyFault.TheVariants as fault
-use Rattle.back_machine.specs.Replies.{fields_of, framing_in, IsTakenFraming, IsValid, IsReplyAt, HasNoReplyYet, HasNoReply, IsBegun}
+use Rattle.back_machine.specs.Replies.{fields_of, IsTakenFraming, IsValid, IsReplyAt, HasNoReplyYet, HasNoReply, IsBegun}
 
 -- what stands at the front of both parts, and fits into the first, stands at its front
 pub front_stays : (p r a b : List ℕ) → a ++ b ≡ p ++ r → length p ≤ length a → a ≡ p ++ drop (length p) a

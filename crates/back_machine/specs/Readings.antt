@@ -1,6 +1,5 @@
 -- What is found at the front of a link's bytes.
 use Rattle.std.specs.Prelude.{◌≡◌, ℕ, ◌-◌, List, ◌++◌, length, take, ⊤}
-use Rattle.http_wire.specs.declared.message.Reply.{Reply}
 use Rattle.back_machine.specs.Replies.{head_limit, IsReplyAt, HasNoReply, IsBegun}
 use Rattle.back_machine.specs.declared.reading.Found.{Found}
 use Rattle.back_machine.specs.declared.reading.Found.TheVariants as found

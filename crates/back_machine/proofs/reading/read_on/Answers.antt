@@ -1,5 +1,5 @@
 use Rattle.std.proofs.Common.{IfOk, ℕ, List, sym, subst, ap, ◌∙◌, ◌++◌, ◌-◌, take, length}
-use Rattle.back_machine.specs.Readings.{Finds, KeepsPart, window}
+use Rattle.back_machine.specs.Readings.{Finds, KeepsPart}
 use Rattle.back_machine.proofs.ExchangeLemmas.{window_first, empty_by}
 use Rattle.back_machine.proofs.reading.read_on.Goals as goal
 

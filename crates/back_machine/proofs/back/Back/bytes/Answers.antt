@@ -1,8 +1,7 @@
 use Rattle.std.proofs.Common.{ℕ, List, Some, refl, sym, ap, ◌∙◌, subst, ◌-◌, min, length}
 use Rattle.back_machine.specs.Exchanges.{BackView, with_left}
-use Rattle.back_machine.specs.Readings.{Finds, KeepsPart, window}
+use Rattle.back_machine.specs.Readings.{window}
 use Rattle.back_machine.specs.Replies.{IsReplyAt, HasNoReply, IsBegun}
-use Rattle.back_machine.specs.declared.state.BackState.{BackState}
 use Rattle.back_machine.proofs.ExchangeLemmas.{content_came, reply_came, bad_came, part_came, open_waits}
 use Rattle.back_machine.proofs.back.Back.bytes.Goals as goal
 

@@ -1,4 +1,4 @@
-use Rattle.std.proofs.Common.{rules, refl, sym, ◌∙◌}
+use Rattle.std.proofs.Common.{rules, refl, ◌∙◌}
 use Rattle.back_machine.proofs.ReplyLemmas.{begun_empty}
 use Rattle.back_machine.proofs.back.Back.new.Goals as goal
 
