@@ -1,18 +1,16 @@
 //! One exchange.
-ghost use Rattle.std.specs.Prelude.{◌≡◌, ℕ, ◌+◌, ◌-◌, ◌≤◌, min, Bool, true, false, List, [], ◌++◌, length, take, drop, slice_range, IfOk, OnErr};
+ghost use Rattle.std.specs.Prelude.{◌≡◌, ℕ, ◌+◌, ◌-◌, ◌≤◌, min, Bool, true, false, List, [], ◌++◌, length, take, drop, IfOk};
 ghost use Rattle.std.specs.Option.{option_copied};
 ghost use Rattle.back_machine.specs.Forwarding.{forwarded, authority_of};
-ghost use Rattle.back_machine.specs.Exchanges.{BackView, IsOpen, broken_by, with_left, Exchanged};
+ghost use Rattle.back_machine.specs.Exchanges.{IsOpen, broken_by, with_left, Exchanged};
 
-use crate::content::content_from;
+use crate::content::{Content, content_from};
 use crate::reading::{Found, length_of, read_on};
 use crate::state::{BackCause, BackState};
 use http_wire::{Reply, Request, spell_request};
 use px_base::{Bytes, Memory, Server, print_decimal};
 use std::alloc::Global;
 use std::marker::Model;
-
-pub use crate::content::Content;
 
 /// One exchange with a backend.
 #[derive(Drop)]
@@ -44,7 +42,8 @@ impl Back {
     ) -> Result<Back, Memory>
         ensures waiting { IfOk result (λ b. b.state ≡ BackState.Waiting) }
         ensures pending { IfOk result (λ b. b.pending ≡ forwarded request.now server.now pass_host) }
-        ensures reached { IfOk result (Exchanged (forwarded request.now server.now pass_host) request.now.method [] [] [] false false) }
+        ensures reached { IfOk result
+            (Exchanged (forwarded request.now server.now pass_host) request.now.method [] [] [] false false) }
     {
         let authority = authority(alloc, server)?;
         let method = Bytes::from_slice(alloc, request.method.as_slice())?;
@@ -127,7 +126,8 @@ impl Back {
         requires { from ≤ length piece.now }
         ensures from { result.from ≡ from }
         ensures len { result.len ≡ min self.old.left (length piece.now - from) }
-        ensures value { self.new ≡ with_left self.old (self.old.left - min self.old.left (length piece.now - from)) }
+        ensures value { self.new ≡
+            with_left self.old (self.old.left - min self.old.left (length piece.now - from)) }
     {
         let content = content_from(from, piece, self.left);
         self.left -= content.len;

@@ -1,5 +1,5 @@
 //! Which bytes of a piece are content.
-ghost use Rattle.std.specs.Prelude.{◌≡◌, ◌+◌, ◌-◌, ◌≤◌, length, min};
+ghost use Rattle.std.specs.Prelude.{◌≡◌, ◌-◌, ◌≤◌, length, min};
 
 /// The bytes of a piece that are content of the reply: the `len` bytes from `from` on.
 #[derive(Clone, Copy, Debug, PartialEq, Eq)]

@@ -10,6 +10,7 @@ mod state;
 #[cfg(test)]
 mod tests;
 
-pub use back::{Back, Content};
+pub use back::Back;
+pub use content::Content;
 pub use laws::{cuts_do_not_matter, replies_are_unique};
 pub use state::{BackCause, BackState};

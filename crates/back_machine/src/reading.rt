@@ -1,5 +1,5 @@
 //! Finds the head of a reply at the front of a link's bytes.
-ghost use Rattle.std.specs.Prelude.{◌≡◌, ◌↔◌, ℕ, ◌<◌, ◌≤◌, ◌-◌, [], length, take, IfOk, IsTrue};
+ghost use Rattle.std.specs.Prelude.{◌≡◌, ◌↔◌, ◌-◌, [], length, take, IfOk, IsTrue};
 ghost use Rattle.head_view.specs.Replies.{IsHeadWithin, AreHeadSpans};
 ghost use Rattle.back_machine.specs.Replies.{head_limit, line_limit, IsTakenFraming, content_length};
 ghost use Rattle.back_machine.specs.Readings.{Finds, KeepsPart, window};
