@@ -1,13 +1,13 @@
 -- Heads at the front of bytes that go on.
 use Rattle.std.proofs.Common.{◌≡◌, ℕ, ◌<◌, ◌≤◌, inl, inr, List, [], ◌∷◌, ◌++◌, length, take, drop, map, refl, sym, ap, ◌∙◌, subst, arith, append_assoc, length-append, None}
 use Rattle.std.proofs.lemmas.Bool.{cases_lt}
-use Rattle.std.proofs.lemmas.List.{take-append-le, drop-append-le, take-append-drop, append-nil}
+use Rattle.std.proofs.lemmas.List.{take-append-le, drop-append-le, take-append-drop, append-nil, length-take, length-map}
 use Rattle.std.proofs.lemmas.List.Elements.{All-nil, All-cons}
 use Rattle.std.proofs.Math.Seq.{take-append_seam}
 use Rattle.std.specs.Char.{is_ascii_digit}
 use Rattle.std.specs.Prelude.{IsTrue}
 use Rattle.httparse.specs.Grammar.{ResponseHead, print_response, ReadsResponse, HasNoResponse, IsResponseHead, lf, status_code, reason_phrase, print_blank, print_version, print_reason, print_end, print_section}
-use Rattle.httparse.specs.Spans.{ResponseOverflows, span_bytes}
+use Rattle.httparse.specs.Spans.{ResponseOverflows, span_bytes, header_bytes, name_and_value}
 use Rattle.httparse.proofs.GrammarLemmas.{response_unique, response_prefix_free, ReadsResponse-append, print_response-append}
 use Rattle.httparse.specs.declared.spans.HeaderSpan.{HeaderSpan}
 use Rattle.body_codec.specs.declared.Framing.{Framing}
@@ -118,6 +118,12 @@ faulty version status fields fault.BadCoding x final framed = framed.2 x.3
 pub found_invalid : (method gave : List ℕ) (lines : List HeaderSpan) (s : ReplySpans) (h : ResponseHead)
     → IsHeadAt gave lines s h → (IsValid method h → ⊥) → HasNoReply method gave
 found_invalid method gave lines s h at bad = invalid method gave h (drop s.len gave) at.reads bad
+
+-- no more fields than there is room
+pub few_fields : (gave : List ℕ) (lines : List HeaderSpan) (s : ReplySpans) (h : ResponseHead) → IsHeadAt gave lines s h
+    → length lines ≡ 100 → length h.fields ≤ 100
+few_fields gave lines s h at room =
+    omega (arith, room, ap length at.fields, length-map (take s.lines lines) (header_bytes gave), length-map h.fields name_and_value, length-take s.lines lines)
 
 -- the fields of the head that a scan found
 fields_found : (gave : List ℕ) (lines : List HeaderSpan) (s : ReplySpans) (h : ResponseHead) → IsHeadAt gave lines s h

@@ -5,8 +5,10 @@ ghost use Rattle.back_machine.specs.Replies.{head_limit, line_limit, IsTakenFram
 ghost use Rattle.back_machine.specs.Readings.{Finds, KeepsPart, window};
 
 use body_codec::Framing;
-use head_view::{EMPTY_HEADER_SPAN, HeaderSpan, ReplyScan, ReplySpans, scan_reply};
+use head_view::{EMPTY_HEADER_SPAN, HeaderSpan, ReplySpans};
 use http_wire::{Reply, ReplyRefused, take_reply};
+use httparse::Status;
+use httparse::spans::parse_response;
 use px_base::Memory;
 use std::alloc::{AllocError, Global};
 
@@ -78,17 +80,26 @@ fn read_first(
     }
 }
 
-// What stands at the front of the bytes.
+// What stands at the front of the bytes. It asks the parser itself: `scan_reply` doesn't say of too many lines that no
+// head with fewer can follow.
 fn find(alloc: Global, gave: &[u8], method: &[u8]) -> Result<Found, Memory>
     ensures { IfOk result (Finds method.now gave.now) }
 {
     let mut room = [EMPTY_HEADER_SPAN; LINE_LIMIT];
-    match scan_reply(gave, &mut room) {
-        ReplyScan::Whole(spans) => take_head(alloc, gave, &room, &spans, method),
-        ReplyScan::Part if gave.len() < HEAD_LIMIT => Ok(Found::Part),
-        ReplyScan::Part => Ok(Found::Bad),
-        ReplyScan::Bad => Ok(Found::Bad),
-        ReplyScan::TooMany => Ok(Found::Bad),
+    match parse_response(gave, &mut room) {
+        Ok(Status::Complete(found)) => {
+            let spans = ReplySpans {
+                version: found.version,
+                status: found.code,
+                reason: found.reason,
+                lines: found.headers,
+                len: found.len,
+            };
+            take_head(alloc, gave, &room, &spans, method)
+        }
+        Ok(Status::Partial) if gave.len() < HEAD_LIMIT => Ok(Found::Part),
+        Ok(Status::Partial) => Ok(Found::Bad),
+        Err(_) => Ok(Found::Bad),
     }
 }
 
