@@ -11,12 +11,13 @@ use crate::probe::Probe;
 use head_view::RequestView;
 use ip_net::Ip;
 use px_base::Memory;
+use sqlite_items::Boxed;
 use std::alloc::Global;
 
 /// A compiled rule. Contracts know it by the rule that it is of, `compiled_rule`.
 #[derive(Drop)]
 pub struct Compiled {
-    pub(crate) check: Check,
+    pub(crate) check: Boxed<Check>,
 }
 
 impl Compiled {
@@ -24,7 +25,7 @@ impl Compiled {
     pub fn plain(&self) -> bool
         ensures { result ≡ has_no_dear_call (compiled_rule self.now) }
     {
-        is_plain(&self.check)
+        is_plain(self.check.get())
     }
 }
 
@@ -40,7 +41,7 @@ pub fn holds(
     ensures truth { IfOk result (λ yes. IsTrue yes ↔ Truth (compiled_rule compiled.now) (asked_of view.now) peer) }
     ensures plain { IsTrue (has_no_dear_call (compiled_rule compiled.now)) → IsOk result }
 {
-    is_true(alloc, &compiled.check, view, peer)
+    is_true(alloc, compiled.check.get(), view, peer)
 }
 
 fn is_true(alloc: Global, check: &Check, view: &RequestView<'_>, peer: Ip) -> Result<bool, Memory>

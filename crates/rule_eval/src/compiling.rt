@@ -1,7 +1,7 @@
 //! A rule made ready to be asked: its patterns built, its networks read.
 ghost use Rattle.std.specs.Prelude.{◌≡◌, ◌+◌, ◌-◌, ◌^◌, ◌≤◌, ℕ, List, ◌++◌, min, length, true, IfOk, OnOk, IfErr, MatchResult};
 ghost use Rattle.std.specs.Str.{str_to_ascii_uppercase};
-ghost use Rattle.rule_lang.specs.Trees.{tree_of, call, negation, both, either};
+ghost use Rattle.rule_lang.specs.Trees.{tree_of, call};
 ghost use Rattle.rule_eval.specs.Calls.{Call, calls_of, has_pattern};
 ghost use Rattle.rule_eval.specs.Checks.{probe_call, rule_of};
 ghost use Rattle.rule_eval.specs.Rules.{compiled_rule};
@@ -57,7 +57,7 @@ fn compile_part<S: PatternShop>(
     rule: &Rule,
     next: &mut u32,
     shop: &mut S,
-) -> Result<Check, CompileFault>
+) -> Result<Boxed<Check>, CompileFault>
     ensures rule { IfOk result (λ c. rule_of c ≡ tree_of rule.now) }
     ensures sound { OnOk result (AreSound (calls_of (tree_of rule.now))) }
     ensures next { OnOk result (next.new ≡ min (next.old + length (calls_of (tree_of rule.now))) (2 ^ 32 - 1)) }
@@ -70,48 +70,25 @@ fn compile_part<S: PatternShop>(
         Rule::Leaf(leaf) => {
             let probe = compile_call(alloc, leaf, *next, shop)?;
             *next = next.saturating_add(1);
-            Ok(Check::Leaf(probe))
+            boxed(alloc, Check::Leaf(probe))
         }
         Rule::Not(inner) => {
             let inner = compile_part(alloc, inner.get(), next, shop)?;
-            not_of(alloc, inner)
+            boxed(alloc, Check::Not(inner))
         }
         Rule::And(left, right) => {
             let left = compile_part(alloc, left.get(), next, shop)?;
             let right = compile_part(alloc, right.get(), next, shop)?;
-            and_of(alloc, left, right)
+            let order = order_of(left.get(), right.get());
+            boxed(alloc, Check::And(order, left, right))
         }
         Rule::Or(left, right) => {
             let left = compile_part(alloc, left.get(), next, shop)?;
             let right = compile_part(alloc, right.get(), next, shop)?;
-            or_of(alloc, left, right)
+            let order = order_of(left.get(), right.get());
+            boxed(alloc, Check::Or(order, left, right))
         }
     }
-}
-
-fn not_of(alloc: Global, inner: Check) -> Result<Check, CompileFault>
-    ensures { MatchResult result (λ c. rule_of c ≡ negation (rule_of inner)) (λ f. f ≡ CompileFault.Memory) }
-{
-    let inner = boxed(alloc, inner)?;
-    Ok(Check::Not(inner))
-}
-
-fn and_of(alloc: Global, left: Check, right: Check) -> Result<Check, CompileFault>
-    ensures { MatchResult result (λ c. rule_of c ≡ both (rule_of left) (rule_of right)) (λ f. f ≡ CompileFault.Memory) }
-{
-    let order = order_of(&left, &right);
-    let left = boxed(alloc, left)?;
-    let right = boxed(alloc, right)?;
-    Ok(Check::And(order, left, right))
-}
-
-fn or_of(alloc: Global, left: Check, right: Check) -> Result<Check, CompileFault>
-    ensures { MatchResult result (λ c. rule_of c ≡ either (rule_of left) (rule_of right)) (λ f. f ≡ CompileFault.Memory) }
-{
-    let order = order_of(&left, &right);
-    let left = boxed(alloc, left)?;
-    let right = boxed(alloc, right)?;
-    Ok(Check::Or(order, left, right))
 }
 
 // The right operand is asked first where it alone is plain: it may spare the other, which takes memory
@@ -242,8 +219,9 @@ fn network_of(alloc: Global, leaf: &Leaf, at: u32) -> Result<Network, CompileFau
     ensures sound { OnOk result (IsNetwork leaf.now.value) }
     ensures fault { IfErr result (BlamesAddress leaf.now.value at) }
 {
-    let Some(net) = read_net(leaf.value.as_slice()) else {
-        return Err(CompileFault::Address { leaf: at });
+    let net = match read_net(leaf.value.as_slice()) {
+        Some(net) => net,
+        None => return Err(CompileFault::Address { leaf: at }),
     };
     let key = copied(alloc, &leaf.key)?;
     let text = copied(alloc, &leaf.value)?;

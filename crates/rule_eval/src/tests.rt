@@ -52,7 +52,13 @@ fn is_true(
 // Whether one call is true of a request for `Shop.test`, `/a/b` and a query of three pairs.
 fn is_met(alloc: Global, matcher: Matcher, key: &str, value: &str) -> Result<bool, Fail> {
     let rule = call(alloc, matcher, key, value)?;
-    is_true(alloc, &rule, b"Shop.test", b"/a/b", b"q=a+b&%71=%c3%a4&q=%ff&x")
+    is_true(
+        alloc,
+        &rule,
+        b"Shop.test",
+        b"/a/b",
+        b"q=a+b&%71=%c3%a4&q=%ff&x",
+    )
 }
 
 fn fields_and_hosts(rt: &impl Abort, alloc: Global) -> Result<(), Fail> {
@@ -198,11 +204,7 @@ fn real_refusals(rt: &impl Abort, alloc: Global) {
         refusal(shop.build("a)")),
         refusal(shop.build("(?:\\w{1000}){1000}")),
     ];
-    let wanted = [
-        None,
-        Some(PatternFault::Syntax),
-        Some(PatternFault::TooBig),
-    ];
+    let wanted = [None, Some(PatternFault::Syntax), Some(PatternFault::TooBig)];
     assert_eq!(rt; refusals, wanted);
 }
 
