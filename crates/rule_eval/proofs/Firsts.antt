@@ -1,5 +1,5 @@
 -- The first call at fault, as a rule is compiled part by part.
-use Rattle.std.proofs.Common.{◌≡◌, ℕ, ◌+◌, ◌-◌, ◌^◌, ◌≤◌, min, List, [], ◌∷◌, ◌++◌, length, Bool, true, false, refl, sym, ap, ◌∙◌, subst, append_assoc, length-append, arith, ap₂, Result, Ok, Err, OnOk, IfErr, IsErrAnd}
+use Rattle.std.proofs.Common.{◌≡◌, ℕ, ◌+◌, ◌-◌, ◌^◌, ◌≤◌, min, List, [], ◌∷◌, ◌++◌, length, true, refl, sym, ap, ◌∙◌, subst, append_assoc, length-append, arith, ap₂, Result, Ok, Err, OnOk, IfErr, IsErrAnd}
 use Rattle.rule_lang.specs.declared.matcher.Matcher.{Matcher}
 use Rattle.rule_lang.specs.declared.matcher.Matcher.TheVariants.{Header, HeaderRegexp, Host, HostRegexp, Method, Path, PathPrefix, PathRegexp, Query, QueryRegexp, ClientIp}
 use Rattle.rule_lang.specs.declared.rule.Rule.{Rule, fold-roll-Rule}
@@ -9,7 +9,7 @@ use Rattle.rule_lang.specs.Trees.{Tree, both, either, tree_step, tree_of}
 use Rattle.px_base.specs.Bytes.{Rose}
 use Rattle.rule_eval.specs.Patterns.{IsPatternText}
 use Rattle.rule_eval.specs.Calls.{Call, calls_of, has_pattern}
-use Rattle.rule_eval.specs.Faults.{IsNetwork, IsBadAddress, IsBadPattern, IsGoodPattern, IsSoundBy, IsSound, AreSound, number_after, IsFirst, Tells, Blames, BlamesText, BlamesAddress}
+use Rattle.rule_eval.specs.Faults.{IsBadAddress, IsBadPattern, IsGoodPattern, IsSoundBy, AreSound, number_after, IsFirst, Tells, Blames, BlamesText, BlamesAddress}
 use Rattle.rule_eval.specs.declared.compiling.CompileFault.{CompileFault}
 use Rattle.rule_eval.specs.declared.compiling.CompileFault.TheVariants.{Address, Syntax, TooBig, Memory}
 

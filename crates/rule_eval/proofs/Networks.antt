@@ -1,5 +1,5 @@
 -- A text writes at most one network.
-use Rattle.std.proofs.Common.{◌≡◌, ◌↔◌, ℕ, ◌+◌, ◌∷◌, ◌++◌, List, length, take, drop, sym, ap, ap₂, refl, ◌∙◌, subst, Option, Some, None, Bool, true, IsTrue, inl, inr, arith, take_at, drop_at}
+use Rattle.std.proofs.Common.{◌≡◌, ◌↔◌, ℕ, ◌∷◌, ◌++◌, List, length, take, drop, sym, ap, ap₂, refl, ◌∙◌, subst, Option, Some, Bool, true, IsTrue, inl, inr, arith, take_at, drop_at}
 use Rattle.std.proofs.Math.Logic.{∥∥₁_elim}
 use Rattle.std.proofs.lemmas.Option.{none-some}
 use Rattle.std.proofs.Math.Bool.{Bool-set}
@@ -7,7 +7,7 @@ use Rattle.std.proofs.NetLemmas.Theorems.{IsIpText_unique}
 use Rattle.std.specs.Net.Grammar.{IsIpText, IsNumber}
 use Rattle.std.specs.declared.net.ip_addr.IpAddr.{IpAddr}
 use Rattle.ip_net.specs.declared.ip.Ip.{Ip}
-use Rattle.ip_net.specs.Texts.{FirstBits, WritesNet, WritesPrefix, written_width, mapped_bits}
+use Rattle.ip_net.specs.Texts.{FirstBits, WritesNet, WritesPrefix, written_width}
 use Rattle.ip_net.specs.Width.{InNetwork}
 use Rattle.ip_net.proofs.Slashes.{slashless_address, slash_place, slash_nowhere, slash_at}
 use Rattle.rule_eval.specs.Truth.{IsPeerIn}

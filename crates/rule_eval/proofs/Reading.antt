@@ -1,5 +1,5 @@
 -- Which texts the grammar of regex reads, from what its builder ensures.
-use Rattle.std.proofs.Common.{◌≡◌, ◌≢◌, ℕ, ◌<◌, ◌≤◌, List, Option, Some, None, IsSomeAnd, IsSome, IfSome, ◌⊎◌, inl, inr, chars, arith, refl, is_some, IsTrue}
+use Rattle.std.proofs.Common.{◌≡◌, ◌≢◌, ℕ, ◌≤◌, List, Option, Some, None, IsSomeAnd, IfSome, inl, inr, chars, arith, refl, is_some}
 use Rattle.regex_hir.specs.declared.hir.Hir.{Hir}
 use Rattle.regex_syntax.specs.declared.error.ErrorKind.{ErrorKind}
 use Rattle.regex_syntax.specs.declared.error.ErrorKind.TheVariants as kind
@@ -7,24 +7,21 @@ use Rattle.regex_syntax.specs.Grammar.{read, Names, group_count}
 use Rattle.regex_syntax.specs.Brackets.{Nested}
 use Rattle.regex_hir.specs.Meaning.{meaning}
 use Rattle.regex_syntax.specs.Verdict.{Reads, Refuses, default_config}
-use Rattle.regex.specs.declared.error.Error.{Error}
 use Rattle.regex.specs.declared.error.Error.TheVariants as failure
 use Rattle.regex.specs.Failures as failures
-use Rattle.regex.specs.Sources.{IsRefusal}
-use Rattle.regex.specs.Strings.{regex_source, regex_config, IsReadFromSource}
 use Rattle.regex.specs.declared.string.regex.Regex.{Regex}
-use Rattle.std.proofs.Common.{get_or, length, option_and_then, true}
+use Rattle.std.proofs.Common.{length, option_and_then, true}
 use Rattle.regex.proofs.ForCallers.{is_match_alike}
 use Rattle.regex.specs.Patterns.{find_str, SameCaptures, Re}
 use Rattle.regex.specs.Strings.{regex_pattern}
-use Rattle.std.proofs.Common.{[], ◌∷◌, ◌++◌, ◌+◌, ◌*◌, ◌==◌, cond, map, ap, ap₂, sym, ◌∙◌, slice_range, option_map}
+use Rattle.std.proofs.Common.{[], ◌∷◌, ◌++◌, ◌+◌, ◌*◌, ◌==◌, cond, map, ap, ap₂, ◌∙◌, slice_range, option_map}
 use Rattle.regex.proofs.ForCallers.{spans, find_all_alike}
 use Rattle.regex.specs.Patterns.{Match, find_all_str}
 use Rattle.regex.specs.Replace.{replaced_by, group_bytes, bytes_of}
 use Rattle.regex.specs.Strings.{regex_names}
 use Rattle.regex.specs.Templates.{written_after}
 use Rattle.regex.specs.Writes.{both}
-use Rattle.rule_eval.specs.Patterns.{IsReadable, IsBuiltFrom, FindsAsRead, ReplacesAsRead, replaced_in}
+use Rattle.rule_eval.specs.Patterns.{IsReadable, IsBuiltFrom, FindsAsRead, ReplacesAsRead}
 
 weaker : {A : Type 0} (o : Option A) (P Q : A → Type 0) → ((x : A) → P x → Q x) → IsSomeAnd o P → IsSomeAnd o Q
 weaker None P Q f p = absurd p

@@ -1,5 +1,5 @@
 -- Fronts of texts, and text that is UTF-8 or not.
-use Rattle.std.proofs.Common.{◌≡◌, ◌↔◌, ℕ, List, ◌++◌, take, drop, length, Bool, true, false, ◌&&◌, IsTrue, eqb, refl, sym, ap, ◌∙◌}
+use Rattle.std.proofs.Common.{◌≡◌, ◌↔◌, ℕ, List, ◌++◌, take, drop, length, Bool, true, false, ◌&&◌, IsTrue, eqb, refl, ◌∙◌}
 use Rattle.std.specs.Str.{IsUtf8, is_utf8}
 use Rattle.std.specs.Cmp.Lexicographic.{pointwise}
 use Rattle.std.proofs.lemmas.Slice.Eq.{starts_is}

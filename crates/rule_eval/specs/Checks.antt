@@ -1,5 +1,4 @@
 -- The rule that a compiled one is of.
-use Rattle.std.specs.Prelude.{ℕ, List}
 use Rattle.rule_lang.specs.declared.matcher.Matcher.TheVariants.{Header, HeaderRegexp, Host, HostRegexp, Method, Path, PathPrefix, PathRegexp, Query, QueryRegexp, ClientIp}
 use Rattle.rule_lang.specs.Trees.{Tree, call, negation, both, either}
 use Rattle.rule_eval.specs.Views.{pattern_text}

@@ -1,6 +1,5 @@
 -- The pairs of a query.
 use Rattle.std.specs.Prelude.{ℕ, List, map, Bool, ◌&&◌, bytes_eq}
-use Rattle.std.specs.List.{list_any}
 use Rattle.std.specs.Str.Lossy.{utf8_lossy}
 use Rattle.form_urlencoded.specs.Form.{raw_pairs, decode}
 use Rattle.rule_eval.specs.Patterns.{finds}

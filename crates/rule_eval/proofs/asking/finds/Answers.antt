@@ -1,4 +1,4 @@
-use Rattle.std.proofs.Common.{◌≡◌, subst, sym}
+use Rattle.std.proofs.Common.{◌≡◌}
 use Rattle.rule_eval.specs.Patterns.{is_found_in}
 use Rattle.rule_eval.specs.Views.{pattern_text}
 use Rattle.rule_eval.proofs.Found.{ok_weaker}

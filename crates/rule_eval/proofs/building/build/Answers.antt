@@ -1,5 +1,5 @@
-use Rattle.std.proofs.Common.{rules, ◌≡◌, refl}
-use Rattle.rule_eval.specs.Patterns.{IsReadable, IsBuiltFrom}
+use Rattle.std.proofs.Common.{rules}
+use Rattle.rule_eval.specs.Patterns.{IsBuiltFrom}
 use Rattle.rule_eval.proofs.Reading.{readable_of_built, readable_of_pattern, unreadable}
 use Rattle.rule_eval.proofs.building.build.Goals as goal
 

@@ -1,6 +1,6 @@
-use Rattle.std.proofs.Common.{◌≡◌, ◌++◌, List, refl}
+use Rattle.std.proofs.Common.{refl}
 use Rattle.rule_lang.specs.Trees.{tree_of}
-use Rattle.rule_eval.specs.Calls.{Call, calls_of}
+use Rattle.rule_eval.specs.Calls.{calls_of}
 use Rattle.rule_eval.proofs.Firsts.{err_same, on_ok, calls_and, calls_or, tells_left, tells_right, sound_both, number_both}
 use Rattle.rule_eval.proofs.compiling.+compile_part.Goals as goal
 

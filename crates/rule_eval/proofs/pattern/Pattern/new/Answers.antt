@@ -1,7 +1,7 @@
 use Rattle.std.proofs.Common.{rules}
 use Rattle.rule_eval.proofs.Reading.{finds_as_built, replaces_as_built}
-use Rattle.rule_eval.specs.Patterns.{IsBuiltFrom, FindsAsRead}
-use Rattle.regex.specs.Strings.{regex_source, regex_pattern}
+use Rattle.rule_eval.specs.Patterns.{IsBuiltFrom}
+use Rattle.regex.specs.Strings.{regex_source}
 use Rattle.rule_eval.proofs.pattern.Pattern.new.Goals as goal
 
 pub invariant_of-result : goal.invariant_of-result

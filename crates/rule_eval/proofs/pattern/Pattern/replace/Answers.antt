@@ -1,4 +1,4 @@
-use Rattle.std.proofs.Common.{◌≡◌, ap, ◌∙◌, Some, string_bytes}
+use Rattle.std.proofs.Common.{ap, ◌∙◌, Some, string_bytes}
 use Rattle.regex.proofs.ReplaceLemmas.{IfOk-weaker}
 use Rattle.regex.specs.Patterns.{find_all_str}
 use Rattle.regex.specs.Strings.{IsWrittenBy, regex_pattern}
