@@ -1,0 +1,10 @@
+pub mod Patterns
+pub mod Views
+pub mod Lists
+pub mod Pairs
+pub mod Calls
+pub mod Truth
+pub mod Faults
+pub mod Shops
+pub mod Checks
+pub mod Rules
