@@ -1,0 +1,5 @@
+pub mod Marks
+pub mod Records
+pub mod Books
+pub mod Fetches
+pub mod Told
