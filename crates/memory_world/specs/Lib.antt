@@ -3,3 +3,4 @@ pub mod Records
 pub mod Books
 pub mod Fetches
 pub mod Told
+pub mod Logs

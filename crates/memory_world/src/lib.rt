@@ -5,6 +5,9 @@ mod book;
 mod mark;
 mod record;
 mod script;
+#[cfg(test)]
+mod tests;
+mod told;
 mod world;
 
 pub use record::Record;

@@ -2,6 +2,7 @@
 ghost use Rattle.std.specs.Prelude.{◌≡◌, ◌<◌, length, true};
 ghost use Rattle.px_base.specs.Bytes.{one_more};
 ghost use Rattle.px_base.specs.Memory.{is_listed};
+ghost use Rattle.memory_world.specs.Logs.{is_open};
 
 use crate::book::Book;
 use crate::mark::Mark;
@@ -39,7 +40,7 @@ pub struct MemoryWorld {
     failing: Failing,
     book: Book,
     next_dial: u64,
-    now: u64,
+    clock: u64,
     waits: u64,
     waits_failed: u64,
     stops: u64,
@@ -68,7 +69,7 @@ impl MemoryWorld {
             },
             book: Book::new(alloc),
             next_dial,
-            now: 0,
+            clock: 0,
             waits: 0,
             waits_failed: 0,
             stops: 0,
@@ -77,8 +78,20 @@ impl MemoryWorld {
         })
     }
 
+    /// Whether the link was given and isn't closed.
+    pub fn is_open(&self, link: u32) -> bool
+        ensures { result ≡ is_open self.now link }
+    {
+        match self.book.find(link) {
+            Some(at) => self.book.mark(at, link).is_open,
+            None => false,
+        }
+    }
+
     /// What was done, in order.
-    pub fn records(&self) -> &[Record] {
+    pub fn records(&self) -> &[Record]
+        ensures { result.now ≡ self.now.book.records }
+    {
         self.book.records()
     }
 }
@@ -87,7 +100,7 @@ impl World for MemoryWorld {
     ghost use Rattle.memory_world.specs.Told.{seen_of};
     ghost use Rattle.memory_world.specs.Marks.{lately_of};
 
-    ghost seen = { λ w. seen_of w.now w.waits w.waits_failed w.stops w.book.marks w.book.records };
+    ghost seen = { λ w. seen_of w.clock w.waits w.waits_failed w.stops w.book.marks w.book.records };
 
     ghost lately = { λ w. lately_of w.clocked w.no_more w.book.marks };
 
@@ -110,13 +123,13 @@ impl World for MemoryWorld {
     fn now(&mut self) -> u64 {
         self.clocked = true;
         let next = self.script.clock();
-        if next <= self.now {
-            return self.now;
+        if next <= self.clock {
+            return self.clock;
         }
         let Ok(()) = self.book.push(Record::Clock { now: next }) else {
-            return self.now;
+            return self.clock;
         };
-        self.now = next;
+        self.clock = next;
         next
     }
 
