@@ -1,16 +1,14 @@
 -- What a change of one link means.
-use Rattle.std.proofs.Common.{◌≡◌, ◌≢◌, ◌⊎◌, ⊎_elim, ℕ, ◌+◌, ◌<◌, ◌≤◌, min, List, [], ◌∷◌, ◌++◌, map, refl, sym, ap, ◌∙◌, Bool, true, false, Option, Some, length, take, subst, inl, inr, arith}
+use Rattle.std.proofs.Common.{◌≡◌, ℕ, List, [], ◌∷◌, ◌++◌, map, refl, sym, ap, ◌∙◌, Bool, true, false, Option, Some, subst}
 use Rattle.std.proofs.Math.Path.{fun_ext}
-use Rattle.std.proofs.lemmas.Bool.{cases_eq, false≢true}
-use Rattle.link_world.specs.declared.world.LinkRead.{LinkRead}
-use Rattle.link_world.specs.declared.world.LinkWrite.{LinkWrite}
+use Rattle.std.proofs.lemmas.Bool.{false≢true}
 use Rattle.px_base.specs.Bytes.{one_more}
-use Rattle.link_world.specs.Log.{Event, LinkEvent, waited, on, closed, IsFresh}
-use Rattle.link_world.specs.Seen.{Seen, Rose, with_event, Came, Faulted, Closed, CloseDid}
-use Rattle.link_world.specs.Lately.{Lately, ReadLately, WriteLately, OnlyAt, SameAt, IsUntouched, Began, is_read_quiet, is_write_quiet}
+use Rattle.link_world.specs.Log.{Event, waited}
+use Rattle.link_world.specs.Seen.{Seen, with_event, CloseDid}
+use Rattle.link_world.specs.Lately.{Began}
 use Rattle.memory_world.specs.declared.mark.Mark.{Mark}
 use Rattle.memory_world.specs.declared.record.Record.{Record}
-use Rattle.memory_world.specs.Marks.{blank, has, mark_of, Put, Added, after_read, after_write, after_fault, after_close, after_wait, lately_of}
+use Rattle.memory_world.specs.Marks.{has, mark_of, after_wait, lately_of}
 use Rattle.memory_world.specs.Records.{event_of}
 use Rattle.memory_world.specs.Told.{seen_of}
 use Rattle.memory_world.proofs.Fresh.{told_more}
@@ -48,8 +46,8 @@ pub seen_waited : (now waits failed stops : ℕ) (old new : List Mark) (records 
 seen_waited now waits failed stops old new records told r is shifted grew =
     subst (λ (ms : List Mark). seen_of now (one_more waits) failed stops ms told ≡ record (with_event (seen_of now waits failed stops old records) waited) { waits = one_more waits }) (sym shifted)
     (remade now (one_more waits) failed stops (map after_wait old) told _ _ _ _
-        (fun_ext (λ l. ap (λ (k : Mark). k.faults) (mark_wait old l))) (fun_ext (λ l. has_wait old l)) (fun_ext (λ l. ap (λ (k : Mark). k.is_open) (mark_wait old l)))
-        (more records told r grew ∙ ap (λ (e : Event). Some (map event_of records ++ e ∷ [])) is))
+    (fun_ext (λ l. ap (λ (k : Mark). k.faults) (mark_wait old l))) (fun_ext (λ l. has_wait old l)) (fun_ext (λ l. ap (λ (k : Mark). k.is_open) (mark_wait old l)))
+    (more records told r grew ∙ ap (λ (e : Event). Some (map event_of records ++ e ∷ [])) is))
 
 pub open_has : (marks : List Mark) (link : ℕ) → has marks link ≡ false → (mark_of marks link).is_open ≡ true → ⊥
 open_has marks link none is_open = let shut : (mark_of marks link).is_open ≡ false = ap (λ (k : Mark). k.is_open) (absent_blank marks link none) in absurd (false≢true (sym shut ∙ is_open))

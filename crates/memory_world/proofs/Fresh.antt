@@ -1,5 +1,5 @@
 -- Logs that name no link.
-use Rattle.std.proofs.Common.{◌≡◌, ℕ, ◌+◌, ◌<◌, List, [], ◌∷◌, ◌++◌, map, sym, Bool, false, zero, suc, length, get_or, take, subst, add-one, arith}
+use Rattle.std.proofs.Common.{◌≡◌, ℕ, ◌+◌, ◌<◌, List, [], ◌∷◌, ◌++◌, map, sym, false, zero, suc, length, get_or, take, subst, add-one, arith}
 use Rattle.std.proofs.lemmas.List.{map-append}
 use Rattle.link_world.specs.Log.{is_of, IsFresh}
 use Rattle.memory_world.specs.declared.record.Record.{Record}

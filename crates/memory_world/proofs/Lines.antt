@@ -4,7 +4,7 @@ use Rattle.std.specs.List.{flat_map}
 use Rattle.std.proofs.lemmas.List.{take_all}
 use Rattle.std.proofs.lemmas.List.Concat.{flat_map-append}
 use Rattle.link_world.specs.declared.note.Note.{Note}
-use Rattle.link_world.specs.Log.{LinkEvent, happening, history_of, taken_by, note_by, taken, notes}
+use Rattle.link_world.specs.Log.{happening, history_of, taken_by, note_by, taken, notes}
 use Rattle.link_world.specs.NoteText.{note_line}
 use Rattle.memory_world.specs.declared.record.Record.{Record}
 use Rattle.memory_world.specs.Records.{event_of}

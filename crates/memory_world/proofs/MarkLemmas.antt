@@ -18,6 +18,7 @@ first_at (m ∷ marks) link (suc at) d within none here = (left, first_at marks 
   where
     left : (m.link == link) ≡ false
     left = grind (arith, none)
+
     right : has (take at marks) link ≡ false
     right = grind (arith, none)
 

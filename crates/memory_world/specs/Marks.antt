@@ -1,6 +1,5 @@
 -- What is meant of each link of a world in memory.
 use Rattle.std.specs.Prelude.{◌≡◌, ◌≢◌, ℕ, zero, suc, ◌+◌, ◌==◌, ◌||◌, List, [], ◌∷◌, Bool, true, false, cond}
-use Rattle.std.specs.List.{list_any}
 use Rattle.px_base.specs.Bytes.{one_more}
 use Rattle.link_world.specs.Lately.{Lately}
 use Rattle.memory_world.specs.declared.mark.Mark.{Mark}

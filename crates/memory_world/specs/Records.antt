@@ -1,5 +1,4 @@
 -- What a record tells.
-use Rattle.std.specs.Prelude.{ℕ, List}
 use Rattle.link_world.specs.Log.{Event, waited, clock, on, closed, stop, came, dialled, gave, gave_end, took, noted}
 use Rattle.memory_world.specs.declared.record.Record.{Record}
 use Rattle.memory_world.specs.declared.record.Record.TheVariants as kept

@@ -12,40 +12,16 @@ use px_base::Bytes;
 pub enum Record {
     Waited,
     /// The clock answered a greater value.
-    Clock {
-        now: u64,
-    },
-    Came {
-        link: u32,
-        entry: Bytes,
-        peer: Ip,
-    },
-    Dialled {
-        link: u32,
-        host: Bytes,
-        port: u16,
-    },
-    Gave {
-        link: u32,
-        bytes: Bytes,
-    },
-    GaveEnd {
-        link: u32,
-    },
-    Took {
-        link: u32,
-        bytes: Bytes,
-    },
+    Clock { now: u64 },
+    Came { link: u32, entry: Bytes, peer: Ip },
+    Dialled { link: u32, host: Bytes, port: u16 },
+    Gave { link: u32, bytes: Bytes },
+    GaveEnd { link: u32 },
+    Took { link: u32, bytes: Bytes },
     /// A note, and the world's count of faults before it.
-    Noted {
-        note: Note,
-        faults: u64,
-    },
+    Noted { note: Note, faults: u64 },
     /// A close, and the world's count of faults before it.
-    Closed {
-        link: u32,
-        faults: u64,
-    },
+    Closed { link: u32, faults: u64 },
     /// A stop was asked for.
     Stopped,
 }

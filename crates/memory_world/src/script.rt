@@ -29,17 +29,9 @@ pub(crate) enum Fetched {
 enum Item {
     Arrive(Arrival),
     /// The bytes from `at` are left.
-    Bytes {
-        link: u32,
-        bytes: Bytes,
-        at: usize,
-    },
-    End {
-        link: u32,
-    },
-    Clock {
-        now: u64,
-    },
+    Bytes { link: u32, bytes: Bytes, at: usize },
+    End { link: u32 },
+    Clock { now: u64 },
     Stop,
     /// It was taken.
     Spent,

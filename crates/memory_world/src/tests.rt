@@ -40,7 +40,13 @@ fn expect_read(rt: &impl Abort, world: &mut MemoryWorld, link: u32, wanted: Link
     }
 }
 
-fn expect_write(rt: &impl Abort, world: &mut MemoryWorld, link: u32, text: &str, wanted: LinkWrite) {
+fn expect_write(
+    rt: &impl Abort,
+    world: &mut MemoryWorld,
+    link: u32,
+    text: &str,
+    wanted: LinkWrite,
+) {
     assert!(rt; world.is_open(link));
     assert!(rt; !text.is_empty());
     assert!(rt; world.write(link, text.as_bytes()) == wanted);
@@ -50,7 +56,11 @@ fn expect_text(rt: &impl Abort, bytes: &[u8], wanted: &str) {
     assert_eq!(rt; bytes, wanted.as_bytes());
 }
 
-fn expect_arrival(rt: &impl Abort, world: &mut MemoryWorld, wanted: Option<u32>) -> Result<(), Fail> {
+fn expect_arrival(
+    rt: &impl Abort,
+    world: &mut MemoryWorld,
+    wanted: Option<u32>,
+) -> Result<(), Fail> {
     let link = world.arrival()?.map(|arrival| arrival.link);
     assert_eq!(rt; link, wanted);
     Ok(())

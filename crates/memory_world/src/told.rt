@@ -41,7 +41,10 @@ fn push_taken(entry: &Record, link: u32, bytes: &mut Vec<u8>) -> Result<(), Memo
     ensures { OnOk result (bytes.new.items ≡ bytes.old.items ++ taken (happening link (event_of entry.now))) }
 {
     match entry {
-        Record::Took { link: l, bytes: took } => {
+        Record::Took {
+            link: l,
+            bytes: took,
+        } => {
             if *l == link {
                 bytes.extend_from_slice(took.as_slice())?;
             }

@@ -53,11 +53,7 @@ impl MemoryWorld {
     /// after the greatest link that arrives. Each wait lets come the steps up to and with the next
     /// clock, or all that are left, and fails where none is left. The clock answers 0 until one came.
     /// Of the calls of `dial`, `read`, `write` and `wait`, counted together from 1, those listed fail.
-    pub fn new(
-        alloc: Global,
-        steps: Vec<Given>,
-        failing: Vec<u64>,
-    ) -> Result<MemoryWorld, Memory> {
+    pub fn new(alloc: Global, steps: Vec<Given>, failing: Vec<u64>) -> Result<MemoryWorld, Memory> {
         let script = Script::new(alloc, steps)?;
         let next_dial = script.first_dial();
         Ok(MemoryWorld {

@@ -1,4 +1,4 @@
-use Rattle.std.proofs.Common.{rules, arith}
+use Rattle.std.proofs.Common.{rules}
 use Rattle.memory_world.proofs.MarkLemmas.{first_here, none_next}
 use Rattle.memory_world.proofs.mark.find.Goals as goal
 

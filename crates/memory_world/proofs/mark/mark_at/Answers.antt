@@ -1,4 +1,4 @@
-use Rattle.std.proofs.Common.{rules, arith, ap, ◌∙◌}
+use Rattle.std.proofs.Common.{rules, ap, ◌∙◌}
 use Rattle.memory_world.specs.declared.mark.Mark.{Mark}
 use Rattle.memory_world.proofs.MarkLemmas.{first_within, first_mark, first_link}
 use Rattle.memory_world.proofs.mark.mark_at.Goals as goal

@@ -1,4 +1,4 @@
-use Rattle.std.proofs.Common.{rules, arith, refl}
+use Rattle.std.proofs.Common.{rules, refl}
 use Rattle.memory_world.proofs.MarkLemmas.{first_within, put_set, count_set}
 use Rattle.memory_world.proofs.mark.put_mark.Goals as goal
 

@@ -1,4 +1,4 @@
-use Rattle.std.proofs.Common.{rules, arith, ap, ◌∙◌, ◌≡◌}
+use Rattle.std.proofs.Common.{rules, ap, ◌∙◌, ◌≡◌}
 use Rattle.memory_world.specs.Marks.{open_count}
 use Rattle.memory_world.proofs.MarkLemmas.{count_most, count_wait}
 use Rattle.memory_world.proofs.book.Book.begin.Goals as goal

@@ -1,4 +1,4 @@
-use Rattle.std.proofs.Common.{rules, arith}
+use Rattle.std.proofs.Common.{rules}
 use Rattle.memory_world.proofs.MarkLemmas.{count_most}
 use Rattle.memory_world.proofs.book.Book.push.Goals as goal
 

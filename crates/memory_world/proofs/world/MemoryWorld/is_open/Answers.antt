@@ -1,4 +1,4 @@
-use Rattle.std.proofs.Common.{rules, arith, ap, sym}
+use Rattle.std.proofs.Common.{rules, ap, sym}
 use Rattle.memory_world.specs.declared.mark.Mark.{Mark}
 use Rattle.memory_world.proofs.MarkLemmas.{absent_blank}
 use Rattle.memory_world.proofs.world.MemoryWorld.is_open.Goals as goal

@@ -1,4 +1,4 @@
-use Rattle.std.proofs.Common.{rules, arith}
+use Rattle.std.proofs.Common.{rules}
 use Rattle.memory_world.proofs.Lines.{lines_end}
 use Rattle.memory_world.proofs.world.MemoryWorld.note_lines.Goals as goal
 

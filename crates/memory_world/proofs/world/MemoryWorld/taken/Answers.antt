@@ -1,4 +1,4 @@
-use Rattle.std.proofs.Common.{rules, arith}
+use Rattle.std.proofs.Common.{rules}
 use Rattle.memory_world.proofs.Lines.{taken_end}
 use Rattle.memory_world.proofs.world.MemoryWorld.taken.Goals as goal
 

@@ -1,4 +1,4 @@
-use Rattle.std.proofs.Common.{rules, arith, refl}
+use Rattle.std.proofs.Common.{rules}
 use Rattle.memory_world.proofs.Did.{close_absent}
 use Rattle.memory_world.proofs.world.MemoryWorldWorld.close.Goals as goal
 

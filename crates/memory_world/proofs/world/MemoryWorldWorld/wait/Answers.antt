@@ -1,4 +1,4 @@
-use Rattle.std.proofs.Common.{rules, arith, refl, subst, sym, ◌≡◌, List, false}
+use Rattle.std.proofs.Common.{rules, refl, subst, sym, List, false}
 use Rattle.link_world.specs.Lately.{Began}
 use Rattle.memory_world.specs.declared.mark.Mark.{Mark}
 use Rattle.memory_world.specs.declared.record.Record.TheVariants as kept

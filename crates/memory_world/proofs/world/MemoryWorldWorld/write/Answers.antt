@@ -1,4 +1,4 @@
-use Rattle.std.proofs.Common.{rules, arith}
+use Rattle.std.proofs.Common.{rules}
 use Rattle.memory_world.proofs.Did.{open_has}
 use Rattle.memory_world.proofs.world.MemoryWorldWorld.write.Goals as goal
 
