@@ -1,2 +1,4 @@
 pub mod NoteText
 pub mod Log
+pub mod Seen
+pub mod Lately

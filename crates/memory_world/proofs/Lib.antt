@@ -1,0 +1,4 @@
+pub mod MarkLemmas
+pub mod Fresh
+pub mod Did
+pub mod Lines

@@ -1,0 +1,10 @@
+use Rattle.std.proofs.Common.{◌≡◌, take}
+use Rattle.std.specs.List.{flat_map}
+use Rattle.link_world.specs.Log.{happening, notes}
+use Rattle.link_world.specs.NoteText.{note_line}
+use Rattle.memory_world.specs.declared.record.Record.{Record}
+use Rattle.memory_world.specs.Records.{event_of}
+use Rattle.memory_world.proofs.world.MemoryWorld.note_lines.Given as goal
+
+abbrev pub invariant-loop-entry : goal.invariant-loop-entry
+invariant-loop-entry l = l.text.items ≡ flat_map (λ (r : Record). flat_map note_line (notes (happening l.link (event_of r)))) (take l.entry-index l.self.book.records)

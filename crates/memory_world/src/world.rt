@@ -1,0 +1,255 @@
+//! The world in memory: what its calls do.
+ghost use Rattle.std.specs.Prelude.{◌≡◌, ◌<◌, length, true};
+ghost use Rattle.px_base.specs.Bytes.{one_more};
+ghost use Rattle.px_base.specs.Memory.{is_listed};
+ghost use Rattle.memory_world.specs.Logs.{is_open};
+
+use crate::book::Book;
+use crate::mark::Mark;
+use crate::record::Record;
+use crate::script::{Fetched, Given, Script};
+use link_world::{Arrival, LinkRead, LinkWrite, Note, WaitFailed, World};
+use px_base::{Bytes, Memory};
+use std::alloc::{AllocError, Global};
+use std::sync::Wait;
+
+/// Which calls fail: those whose numbers are listed. The first has the number 1.
+#[derive(Drop)]
+pub(crate) struct Failing {
+    listed: Vec<u64>,
+    calls: u64,
+}
+
+impl Failing {
+    /// Whether the next call fails.
+    fn next(&mut self) -> bool
+        ensures calls { self.new.calls ≡ one_more self.old.calls }
+        ensures fails { result ≡ is_listed self.old.listed.items (one_more self.old.calls) }
+        ensures same { self.new.listed ≡ self.old.listed }
+    {
+        self.calls = self.calls.saturating_add(1);
+        self.listed.as_slice().contains(&self.calls)
+    }
+}
+
+/// A world whose outside is a script. It tells its log.
+#[derive(Drop)]
+pub struct MemoryWorld {
+    alloc: Global,
+    script: Script,
+    failing: Failing,
+    book: Book,
+    next_dial: u64,
+    clock: u64,
+    waits: u64,
+    waits_failed: u64,
+    stops: u64,
+    clocked: bool,
+    no_more: bool,
+}
+
+impl MemoryWorld {
+    /// No two arrivals have one link, and no clock is below an earlier one. Dials take the numbers
+    /// after the greatest link that arrives. Each wait lets come the steps up to and with the next
+    /// clock, or all that are left, and fails where none is left. The clock answers 0 until one came.
+    /// Of the calls of `dial`, `read`, `write` and `wait`, counted together from 1, those listed fail.
+    pub fn new(alloc: Global, steps: Vec<Given>, failing: Vec<u64>) -> Result<MemoryWorld, Memory> {
+        let script = Script::new(alloc, steps)?;
+        let next_dial = script.first_dial();
+        Ok(MemoryWorld {
+            alloc,
+            script,
+            failing: Failing {
+                listed: failing,
+                calls: 0,
+            },
+            book: Book::new(alloc),
+            next_dial,
+            clock: 0,
+            waits: 0,
+            waits_failed: 0,
+            stops: 0,
+            clocked: false,
+            no_more: false,
+        })
+    }
+
+    /// Whether the link was given and isn't closed.
+    pub fn is_open(&self, link: u32) -> bool
+        ensures { result ≡ is_open self.now link }
+    {
+        match self.book.find(link) {
+            Some(at) => self.book.mark(at, link).is_open,
+            None => false,
+        }
+    }
+
+    /// What was done, in order.
+    pub fn records(&self) -> &[Record]
+        ensures { result.now ≡ self.now.book.records }
+    {
+        self.book.records()
+    }
+}
+
+impl World for MemoryWorld {
+    ghost use Rattle.memory_world.specs.Told.{seen_of};
+    ghost use Rattle.memory_world.specs.Marks.{lately_of};
+
+    ghost seen = { λ w. seen_of w.clock w.waits w.waits_failed w.stops w.book.marks w.book.records };
+
+    ghost lately = { λ w. lately_of w.clocked w.no_more w.book.marks };
+
+    fn wait<R: Wait>(&mut self, _rt: &R, _until: u64) -> Result<(), WaitFailed> {
+        if self.failing.next() || self.script.is_over() {
+            self.waits_failed = self.waits_failed.saturating_add(1);
+            return Err(WaitFailed);
+        }
+        let Ok(()) = self.book.begin() else {
+            self.waits_failed = self.waits_failed.saturating_add(1);
+            return Err(WaitFailed);
+        };
+        self.waits = self.waits.saturating_add(1);
+        self.clocked = false;
+        self.no_more = false;
+        self.script.release();
+        Ok(())
+    }
+
+    fn now(&mut self) -> u64 {
+        self.clocked = true;
+        let next = self.script.clock();
+        if next <= self.clock {
+            return self.clock;
+        }
+        let Ok(()) = self.book.push(Record::Clock { now: next }) else {
+            return self.clock;
+        };
+        self.clock = next;
+        next
+    }
+
+    fn arrival(&mut self) -> Result<Option<Arrival>, Memory> {
+        self.no_more = false;
+        let Some(arrival) = self.script.arrival() else {
+            self.no_more = true;
+            return Ok(None);
+        };
+        let link = arrival.link;
+        let peer = arrival.peer;
+        if !self.book.is_new(link) {
+            self.no_more = true;
+            return Ok(None);
+        }
+        let entry = Bytes::from_slice(self.alloc, arrival.entry.as_slice())?;
+        let told = Bytes::from_slice(self.alloc, entry.as_slice())?;
+        let came = Record::Came {
+            link,
+            entry: told,
+            peer,
+        };
+        self.book.come(Mark::new(link, false), came)?;
+        self.script.take_arrival();
+        Ok(Some(Arrival { link, entry, peer }))
+    }
+
+    fn dial(&mut self, host: &[u8], port: u16) -> Result<u32, Memory> {
+        let is_dead = self.failing.next();
+        let Ok(link) = u32::try_from(self.next_dial) else {
+            return Err(AllocError);
+        };
+        if !self.book.is_new(link) {
+            return Err(AllocError);
+        }
+        let host = Bytes::from_slice(self.alloc, host)?;
+        let dialled = Record::Dialled { link, host, port };
+        self.book.come(Mark::new(link, is_dead), dialled)?;
+        self.next_dial = self.next_dial.saturating_add(1);
+        Ok(link)
+    }
+
+    fn read(&mut self, link: u32, room: &mut [u8]) -> LinkRead {
+        let Some(at) = self.book.find(link) else {
+            unreachable!()
+        };
+        let mark = self.book.mark(at, link);
+        if self.failing.next() || mark.is_dead {
+            self.book.put(at, mark.read(false).failed());
+            return LinkRead::Failed;
+        }
+        match self.script.fetch(link, room) {
+            Fetched::NotYet => {
+                self.book.put(at, mark.read(true));
+                LinkRead::NotYet
+            }
+            Fetched::End => {
+                let Ok(()) = self.book.did_read(at, mark, Record::GaveEnd { link }) else {
+                    return LinkRead::Failed;
+                };
+                LinkRead::End
+            }
+            Fetched::Got(n) => {
+                let Ok(bytes) = Bytes::from_slice(self.alloc, &room[..n]) else {
+                    self.book.put(at, mark.read(false).failed());
+                    return LinkRead::Failed;
+                };
+                let Ok(()) = self.book.did_read(at, mark, Record::Gave { link, bytes }) else {
+                    return LinkRead::Failed;
+                };
+                self.script.advance(link, n);
+                LinkRead::Got(n)
+            }
+        }
+    }
+
+    fn write(&mut self, link: u32, piece: &[u8]) -> LinkWrite {
+        let Some(at) = self.book.find(link) else {
+            unreachable!()
+        };
+        let mark = self.book.mark(at, link);
+        if self.failing.next() || mark.is_dead {
+            self.book.put(at, mark.written(false).failed());
+            return LinkWrite::Failed;
+        }
+        let Ok(bytes) = Bytes::from_slice(self.alloc, piece) else {
+            self.book.put(at, mark.written(false).failed());
+            return LinkWrite::Failed;
+        };
+        let Ok(()) = self.book.did_write(at, mark, Record::Took { link, bytes }) else {
+            return LinkWrite::Failed;
+        };
+        LinkWrite::Took(piece.len())
+    }
+
+    fn close(&mut self, link: u32) {
+        let Some(at) = self.book.find(link) else {
+            return;
+        };
+        let mark = self.book.mark(at, link);
+        if !mark.is_open {
+            return;
+        }
+        let faults = self.waits_failed;
+        self.book.close(at, mark, Record::Closed { link, faults });
+    }
+
+    fn note(&mut self, note: Note) -> Result<(), Memory> {
+        let faults = self.waits_failed;
+        let Ok(()) = self.book.push(Record::Noted { note, faults }) else {
+            self.waits_failed = self.waits_failed.saturating_add(1);
+            return Err(AllocError);
+        };
+        Ok(())
+    }
+
+    fn stop_asked(&mut self) -> bool {
+        if !self.script.has_stop() {
+            return false;
+        }
+        let Ok(()) = self.book.push(Record::Stopped) else {
+            return false;
+        };
+        self.stops = self.stops.saturating_add(1);
+        true
+    }
+}

@@ -1,0 +1,34 @@
+//! Addresses of sockets, and the addresses of this project.
+use ip_net::{Ip, read_ip};
+use mio::net::TcpStream;
+use std::net::{IpAddr, Ipv4Addr, Ipv6Addr, Net, SocketAddr, ToSocketAddrs};
+use std::str;
+
+/// The address of a peer. A mapped address is the IPv4 address in it.
+pub(crate) fn ip_of(from: SocketAddr) -> Ip {
+    match from.ip().to_canonical() {
+        IpAddr::V4(ip) => Ip::V4(ip.to_bits()),
+        IpAddr::V6(ip) => Ip::V6(ip.to_bits()),
+    }
+}
+
+pub(crate) fn socket_addr(ip: Ip, port: u16) -> SocketAddr {
+    match ip {
+        Ip::V4(bits) => SocketAddr::from((Ipv4Addr::from_bits(bits), port)),
+        Ip::V6(bits) => SocketAddr::from((Ipv6Addr::from_bits(bits), port)),
+    }
+}
+
+/// Begins a connection. A name is looked up first, which may take a while. None where it can't begin.
+pub(crate) fn open_stream<R: Net>(rt: &R, host: &[u8], port: u16) -> Option<TcpStream> {
+    let addr = match read_ip(host) {
+        Some(ip) => socket_addr(ip, port),
+        None => look_up(rt, host, port)?,
+    };
+    TcpStream::connect(rt, addr).ok()
+}
+
+fn look_up<R: Net>(rt: &R, host: &[u8], port: u16) -> Option<SocketAddr> {
+    let name = str::from_utf8(host).ok()?;
+    (name, port).to_socket_addrs(rt).ok()?.next()
+}

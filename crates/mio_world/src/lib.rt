@@ -1,0 +1,14 @@
+//! The world of real sockets.
+#![tactic(auto)]
+
+mod access;
+mod address;
+mod slot;
+mod sockets;
+mod table;
+#[cfg(test)]
+mod tests;
+mod world;
+
+pub use access::Access;
+pub use world::{BindFault, MioWorld};

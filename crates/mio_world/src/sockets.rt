@@ -1,0 +1,469 @@
+//! The sockets behind the places of links, and how ready each is. No contract speaks of what they carry.
+ghost use Rattle.std.specs.Prelude.{◌<◌, length};
+ghost use Rattle.mio_world.specs.Fits.{FitsRead, FitsWrite};
+
+use crate::address::{ip_of, open_stream, socket_addr};
+use crate::table::PLACES;
+use ip_net::Ip;
+use link_world::{Listen, LinkRead, LinkWrite};
+use mio::net::{TcpListener, TcpStream};
+use mio::{Events, Interest, Poll, Token};
+use px_base::{Bytes, Memory};
+use std::alloc::Global;
+use std::collections::VecDeque;
+use std::io;
+use std::io::{ErrorKind, Read, Write};
+use std::net::{Net, Shutdown};
+use std::time::Duration;
+
+/// How long a closed link waits for the other side's end, in milliseconds.
+const LINGER: u64 = 1_000;
+
+/// So many reads of a link in one turn leave it ready: the next wait doesn't block.
+const MANY: u64 = 63;
+
+/// How the poll is told of a stream.
+#[derive(Clone, Copy, PartialEq, Eq)]
+enum Watch {
+    Nothing,
+    Reading,
+    Both,
+}
+
+/// What is known of a stream without asking it.
+#[derive(Clone, Copy)]
+struct Ready {
+    /// A read may give something.
+    readable: bool,
+    /// A write may take something.
+    writable: bool,
+    /// The other side has ended.
+    hung: bool,
+    /// This side dialled.
+    dialled: bool,
+    /// Something was written.
+    written: bool,
+    /// Small pieces go at once.
+    nodelay: bool,
+    /// It was closed, and waits for the other side's end.
+    parked: bool,
+    /// The poll is told of it at the next wait.
+    queued: bool,
+    watch: Watch,
+}
+
+const IDLE: Ready = Ready {
+    readable: false,
+    writable: false,
+    hung: false,
+    dialled: false,
+    written: false,
+    nodelay: false,
+    parked: false,
+    queued: false,
+    watch: Watch::Nothing,
+};
+
+/// The socket behind a place.
+#[derive(Drop)]
+struct Line {
+    ready: Ready,
+    stream: Option<TcpStream>,
+}
+
+/// A place whose link was closed, and until when it waits.
+#[derive(Clone, Copy)]
+struct Parked {
+    at: usize,
+    until: u64,
+}
+
+/// A listener, and whether a client may stand there.
+#[derive(Drop)]
+struct Door {
+    listener: TcpListener,
+    entry: Bytes,
+    ready: bool,
+}
+
+/// A client that was accepted.
+#[derive(Drop)]
+pub(crate) struct Client {
+    pub stream: TcpStream,
+    pub entry: Bytes,
+    pub peer: Ip,
+}
+
+#[derive(Drop)]
+pub(crate) struct Sockets {
+    poll: Poll,
+    events: Events<Global>,
+    doors: Vec<Door>,
+    lines: Vec<Line>,
+    free: Vec<usize>,
+    queue: Vec<usize>,
+    parked: VecDeque<Parked>,
+    /// A link has more to give than was read.
+    eager: bool,
+}
+
+impl Sockets {
+    /// No listener, and all places free.
+    pub fn new<R: Net>(rt: &R, alloc: Global) -> io::Result<Sockets> {
+        let poll = Poll::new(rt)?;
+        let events = Events::with_capacity(alloc, 1024)?;
+        let mut lines = Vec::with_capacity(alloc, PLACES)?;
+        let mut free = Vec::with_capacity(alloc, PLACES)?;
+        for at in 0..PLACES {
+            lines.push(Line {
+                ready: IDLE,
+                stream: None,
+            })?;
+            free.push(PLACES - 1 - at)?;
+        }
+        Ok(Sockets {
+            poll,
+            events,
+            doors: Vec::new(alloc),
+            lines,
+            free,
+            queue: Vec::with_capacity(alloc, PLACES)?,
+            parked: VecDeque::with_capacity(alloc, PLACES)?,
+            eager: false,
+        })
+    }
+
+    /// Binds a listener.
+    pub fn listen<R: Net>(&mut self, rt: &R, alloc: Global, listen: &Listen) -> io::Result<()> {
+        let entry = Bytes::from_slice(alloc, listen.entry.as_slice())?;
+        let mut listener = TcpListener::bind(rt, socket_addr(listen.ip, listen.port))?;
+        let token = Token(PLACES.saturating_add(self.doors.len()));
+        self.poll
+            .registry()
+            .register(&mut listener, token, Interest::READABLE)?;
+        self.doors.push(Door {
+            listener,
+            entry,
+            ready: true,
+        })?;
+        Ok(())
+    }
+
+    /// The place that the next link gets.
+    pub fn next_place(&self) -> Option<usize> {
+        self.free.last().copied()
+    }
+
+    /// That place is no more free.
+    pub fn take_place(&mut self) {
+        self.free.pop();
+    }
+
+    /// The next client that stands at a listener.
+    pub fn next_client(&mut self, alloc: Global) -> Result<Option<Client>, Memory> {
+        for at in 0..self.doors.len() {
+            if let Some(client) = accept(alloc, &mut self.doors[at])? {
+                return Ok(Some(client));
+            }
+        }
+        Ok(None)
+    }
+
+    /// Puts a stream behind a place. None stands for a dial that failed.
+    pub fn admit(&mut self, at: usize, stream: Option<TcpStream>, dialled: bool) {
+        if at >= self.lines.len() {
+            return;
+        }
+        self.lines[at] = Line {
+            ready: Ready {
+                readable: !dialled || stream.is_none(),
+                writable: true,
+                dialled,
+                queued: true,
+                ..IDLE
+            },
+            stream,
+        };
+        let _ = self.queue.push(at);
+    }
+
+    /// Dials.
+    pub fn dial<R: Net>(&mut self, rt: &R, at: usize, host: &[u8], port: u16) {
+        let stream = open_stream(rt, host, port);
+        self.admit(at, stream, true);
+    }
+
+    /// Reads the stream behind a place, unless it is known that nothing is there.
+    pub fn read(&mut self, at: usize, before: u64, room: &mut [u8]) -> LinkRead
+        requires { 0 < length room.old }
+        ensures { FitsRead result (length room.new) }
+    {
+        if at >= self.lines.len() {
+            return LinkRead::Failed;
+        }
+        let answer = read_line(&mut self.lines[at], room);
+        if before >= MANY && answer != LinkRead::NotYet {
+            self.eager = true;
+        }
+        answer
+    }
+
+    /// Writes to the stream behind a place, unless it is known that it has no room.
+    pub fn write(&mut self, at: usize, piece: &[u8]) -> LinkWrite
+        requires { 0 < length piece.now }
+        ensures { FitsWrite result (length piece.now) }
+    {
+        if at >= self.lines.len() {
+            return LinkWrite::Failed;
+        }
+        let answer = write_line(&mut self.lines[at], piece);
+        self.watch_writing(at);
+        answer
+    }
+
+    // A stream without room, of whose room the poll isn't told yet, is put into the queue.
+    fn watch_writing(&mut self, at: usize) {
+        if at >= self.lines.len() {
+            return;
+        }
+        let ready = self.lines[at].ready;
+        if !ready.writable && ready.watch != Watch::Both && !ready.queued {
+            self.lines[at].ready.queued = true;
+            let _ = self.queue.push(at);
+        }
+    }
+
+    /// Lets go of the stream behind a place. It is closed when the other side has ended, or after a second.
+    pub fn let_go(&mut self, at: usize, now: u64) {
+        if at >= self.lines.len() {
+            return;
+        }
+        let until = now.saturating_add(LINGER);
+        if stays(&mut self.lines[at]) && self.parked.push_back(Parked { at, until }).is_ok() {
+            return;
+        }
+        self.release(at);
+    }
+
+    // Closes the stream behind a place, which is then free.
+    fn release(&mut self, at: usize) {
+        if at >= self.lines.len() {
+            return;
+        }
+        self.lines[at] = Line {
+            ready: IDLE,
+            stream: None,
+        };
+        let _ = self.free.push(at);
+    }
+
+    // Closes the streams that have waited long enough.
+    fn expire(&mut self, now: u64) {
+        for _ in 0..self.parked.len() {
+            match self.parked.front() {
+                Some(first) => {
+                    if first.until > now {
+                        return;
+                    }
+                }
+                None => return,
+            }
+            if let Some(first) = self.parked.pop_front() {
+                if first.at < self.lines.len() && self.lines[first.at].ready.parked {
+                    self.release(first.at);
+                }
+            }
+        }
+    }
+
+    // Tells the poll of the streams in the queue.
+    fn watch_all(&mut self) {
+        for _ in 0..self.queue.len() {
+            if let Some(at) = self.queue.pop() {
+                if at < self.lines.len() {
+                    watch_line(&self.poll, at, &mut self.lines[at]);
+                }
+            }
+        }
+    }
+
+    /// Waits until a socket is ready or the clock is at `until`, and answers whether that could be done.
+    pub fn wait(&mut self, now: u64, until: u64) -> bool {
+        self.expire(now);
+        self.watch_all();
+        let timeout = self.timeout(now, until);
+        self.eager = false;
+        if self.poll.poll(&mut self.events, timeout).is_err() {
+            return false;
+        }
+        self.take_events();
+        true
+    }
+
+    // How long to wait.
+    fn timeout(&self, now: u64, until: u64) -> Option<Duration> {
+        if self.eager {
+            return Some(Duration::ZERO);
+        }
+        let left = until.saturating_sub(now);
+        if !self.parked.is_empty() {
+            return Some(Duration::from_millis(left.min(LINGER)));
+        }
+        if until == u64::MAX {
+            return None;
+        }
+        Some(Duration::from_millis(left))
+    }
+
+    fn take_events(&mut self) {
+        for event in &self.events {
+            let at = event.token().0;
+            if at >= self.lines.len() {
+                let door = at - self.lines.len();
+                if door < self.doors.len() {
+                    self.doors[door].ready = true;
+                }
+                continue;
+            }
+            let line = &mut self.lines[at];
+            let ended = event.is_read_closed() || event.is_error();
+            line.ready.readable = line.ready.readable || event.is_readable() || ended;
+            line.ready.writable = line.ready.writable || event.is_writable() || event.is_error();
+            line.ready.hung = line.ready.hung || ended;
+            if line.ready.parked && ended {
+                line.ready = IDLE;
+                line.stream = None;
+                let _ = self.free.push(at);
+            }
+        }
+    }
+}
+
+// A client that stands at this listener.
+fn accept(alloc: Global, door: &mut Door) -> Result<Option<Client>, Memory> {
+    if !door.ready {
+        return Ok(None);
+    }
+    let entry = Bytes::from_slice(alloc, door.entry.as_slice())?;
+    match door.listener.accept() {
+        Ok((stream, from)) => Ok(Some(Client {
+            stream,
+            entry,
+            peer: ip_of(from),
+        })),
+        Err(e) => {
+            if e.kind() == ErrorKind::WouldBlock {
+                door.ready = false;
+            }
+            Ok(None)
+        }
+    }
+}
+
+fn read_line(line: &mut Line, room: &mut [u8]) -> LinkRead
+    requires { 0 < length room.old }
+    ensures { FitsRead result (length room.new) }
+{
+    if !line.ready.readable {
+        return LinkRead::NotYet;
+    }
+    let size = room.len();
+    let Some(stream) = &mut line.stream else {
+        return LinkRead::Failed;
+    };
+    match stream.read(room) {
+        Ok(count) => {
+            if count == 0 {
+                line.ready.hung = true;
+                return LinkRead::End;
+            }
+            // A short read empties the stream; after the other side's end no event tells so again.
+            line.ready.readable = line.ready.hung || count >= size;
+            LinkRead::Got(count)
+        }
+        Err(e) => {
+            if e.kind() == ErrorKind::WouldBlock {
+                line.ready.readable = false;
+                return LinkRead::NotYet;
+            }
+            LinkRead::Failed
+        }
+    }
+}
+
+fn write_line(line: &mut Line, piece: &[u8]) -> LinkWrite
+    requires { 0 < length piece.now }
+    ensures { FitsWrite result (length piece.now) }
+{
+    if !line.ready.writable {
+        return LinkWrite::NotYet;
+    }
+    let Some(stream) = &mut line.stream else {
+        return LinkWrite::Failed;
+    };
+    // The first piece goes at once in any case.
+    if line.ready.written && !line.ready.nodelay {
+        let _ = stream.set_nodelay(true);
+        line.ready.nodelay = true;
+    }
+    match stream.write(piece) {
+        Ok(count) => {
+            if count == 0 {
+                line.ready.writable = false;
+                return LinkWrite::NotYet;
+            }
+            line.ready.written = true;
+            line.ready.writable = count >= piece.len();
+            LinkWrite::Took(count)
+        }
+        Err(e) => {
+            if e.kind() == ErrorKind::WouldBlock {
+                line.ready.writable = false;
+                return LinkWrite::NotYet;
+            }
+            LinkWrite::Failed
+        }
+    }
+}
+
+// Whether the stream of a closed link has to wait for the other side's end. A client is told that
+// nothing more comes.
+fn stays(line: &mut Line) -> bool {
+    if line.ready.hung {
+        return false;
+    }
+    let Some(stream) = &line.stream else {
+        return false;
+    };
+    if !line.ready.dialled && stream.shutdown(Shutdown::Write).is_err() {
+        return false;
+    }
+    line.ready.parked = true;
+    true
+}
+
+// Tells the poll of a stream: of its room too, where it had none.
+fn watch_line(poll: &Poll, at: usize, line: &mut Line) {
+    line.ready.queued = false;
+    let Some(stream) = &mut line.stream else {
+        return;
+    };
+    let both = !line.ready.writable;
+    let interest = if both {
+        Interest::READABLE | Interest::WRITABLE
+    } else {
+        Interest::READABLE
+    };
+    let told = if line.ready.watch == Watch::Nothing {
+        poll.registry().register(stream, Token(at), interest)
+    } else {
+        poll.registry().reregister(stream, Token(at), interest)
+    };
+    if told.is_err() {
+        // Nobody would tell that it is ready, so it is asked.
+        line.ready.readable = true;
+        line.ready.writable = true;
+        return;
+    }
+    line.ready.watch = if both { Watch::Both } else { Watch::Reading };
+}
