@@ -5,7 +5,7 @@ ghost use Rattle.mio_world.specs.Fits.{FitsRead, FitsWrite};
 use crate::address::{ip_of, open_stream, socket_addr};
 use crate::table::PLACES;
 use ip_net::Ip;
-use link_world::{Listen, LinkRead, LinkWrite};
+use link_world::{LinkRead, LinkWrite, Listen};
 use mio::net::{TcpListener, TcpStream};
 use mio::{Events, Interest, Poll, Token};
 use px_base::{Bytes, Memory};
