@@ -1,5 +1,5 @@
 -- What a change of one link means.
-use Rattle.std.proofs.Common.{◌≡◌, ◌≢◌, ℕ, ◌+◌, ◌<◌, ◌≤◌, ◌^◌, ◌-◌, List, [], ◌∷◌, ◌++◌, take, length, refl, sym, ap, ◌∙◌, Bool, true, false, Option, None, subst, inl, inr, arith}
+use Rattle.std.proofs.Common.{◌≡◌, ℕ, ◌+◌, ◌<◌, ◌^◌, ◌-◌, List, length, refl, sym, ap, ◌∙◌, Bool, true, false, None, inl, inr, arith}
 use Rattle.std.proofs.Math.Path.{fun_ext}
 use Rattle.std.proofs.lemmas.Bool.{cases_eq, false≢true}
 use Rattle.px_base.specs.Bytes.{one_more}
@@ -7,11 +7,11 @@ use Rattle.link_world.specs.declared.world.LinkRead.{LinkRead}
 use Rattle.link_world.specs.declared.world.LinkRead.TheVariants as read
 use Rattle.link_world.specs.declared.world.LinkWrite.{LinkWrite}
 use Rattle.link_world.specs.declared.world.LinkWrite.TheVariants as write
-use Rattle.link_world.specs.Log.{Event, LinkEvent, waited, on, closed}
-use Rattle.link_world.specs.Seen.{Seen, Rose, with_event, Came, Faulted, Closed, ReadDid, WriteDid, CloseDid}
-use Rattle.link_world.specs.Lately.{Lately, ReadLately, WriteLately, OnlyAt, SameAt, IsUntouched, Began, is_read_quiet, is_write_quiet}
+use Rattle.link_world.specs.Log.{LinkEvent, waited}
+use Rattle.link_world.specs.Seen.{Seen, with_event, Came, Faulted, ReadDid, WriteDid, CloseDid}
+use Rattle.link_world.specs.Lately.{Lately, ReadLately, WriteLately, OnlyAt, SameAt, IsUntouched, Began}
 use Rattle.mio_world.specs.declared.slot.Asked.{Asked}
-use Rattle.mio_world.specs.Slots.{TableView, Meaning, meaning, Put, never_come, new_meaning, shut_meaning, untouched, seen_of, lately_of}
+use Rattle.mio_world.specs.Slots.{TableView, Meaning, meaning, Put, never_come, new_meaning, shut_meaning, seen_of, lately_of}
 use Rattle.mio_world.specs.Tables.{read_meaning, write_meaning, began}
 use Rattle.mio_world.specs.Fits.{FitsRead, FitsWrite}
 
@@ -84,14 +84,17 @@ module _ (now failed stops : ℕ) (old new : TableView) (link : ℕ) where
   }
 
   pub close_did : (meaning old link).is_open ≡ true → (meaning old link).come ≡ true → (meaning old link).faults < 2 ^ 64 → Put old link (shut_meaning old.waits) new → CloseDid (seen_of now failed stops old) link (seen_of now failed stops new)
-  close_did is_open come fits put = (λ _. record {
+  close_did is_open come fits put = (
+    λ _. record {
       same = remade now failed stops old.waits new _ _ _ put.waits refl (kept (λ (k : Meaning). k.come) old new link (shut_meaning old.waits) put (sym come)) refl;
       not_open = ap (λ (k : Meaning). k.is_open) put.here;
       others_open = λ l ne. ap (λ (k : Meaning). k.is_open) (put.others l ne);
       later = let e = ap (λ (k : Meaning). k.faults) put.here in omega (arith, e, fits);
       kept = tt;
       others = λ l ne. ap (λ (k : Meaning). k.faults) (put.others l ne);
-    }, λ shut. absurd (false≢true (sym shut ∙ is_open)))
+    },
+    λ shut. absurd (false≢true (sym shut ∙ is_open)),
+  )
 
   pub came_did : (e : LinkEvent) → meaning old link ≡ never_come old.waits → Put old link (new_meaning old.waits) new → Came (seen_of now failed stops old) link e (seen_of now failed stops new)
   came_did e never put = record {
@@ -110,9 +113,10 @@ module _ (now failed stops : ℕ) (old new : TableView) (link : ℕ) where
   lately clocked no_more asked = record { clocked = clocked; no_more = no_more; reads = λ l. (asked l).reads; read_quiet = λ l. (asked l).read_quiet; write_quiet = λ l. (asked l).write_quiet; read_was_quiet = λ l. (asked l).read_was_quiet; write_was_quiet = λ l. (asked l).write_was_quiet }
 
   pub came_lately : (clocked no_more : Bool) → meaning old link ≡ never_come old.waits → Put old link (new_meaning old.waits) new → (lately_of clocked no_more new ≡ lately_of clocked no_more old) × IsUntouched (lately_of clocked no_more new) link
-  came_lately clocked no_more never put =
-      (ap (λ (f : ℕ → Asked). lately clocked no_more f) (kept (λ (k : Meaning). k.asked) old new link (new_meaning old.waits) put (ap (λ (k : Meaning). k.asked) (sym never))),
-       record { reads = ap (λ (k : Meaning). k.asked.reads) put.here; read_quiet = ap (λ (k : Meaning). k.asked.read_quiet) put.here; write_quiet = ap (λ (k : Meaning). k.asked.write_quiet) put.here; read_was_quiet = ap (λ (k : Meaning). k.asked.read_was_quiet) put.here; write_was_quiet = ap (λ (k : Meaning). k.asked.write_was_quiet) put.here })
+  came_lately clocked no_more never put = (
+    ap (λ (f : ℕ → Asked). lately clocked no_more f) (kept (λ (k : Meaning). k.asked) old new link (new_meaning old.waits) put (ap (λ (k : Meaning). k.asked) (sym never))),
+    record { reads = ap (λ (k : Meaning). k.asked.reads) put.here; read_quiet = ap (λ (k : Meaning). k.asked.read_quiet) put.here; write_quiet = ap (λ (k : Meaning). k.asked.write_quiet) put.here; read_was_quiet = ap (λ (k : Meaning). k.asked.read_was_quiet) put.here; write_was_quiet = ap (λ (k : Meaning). k.asked.write_was_quiet) put.here },
+  )
 
 -- a wait that was made
 pub waited_did : (now failed stops : ℕ) (old new : TableView) → old.waits < 2 ^ 64 - 1 → new.waits ≡ old.waits + 1 → ((l : ℕ) → meaning new l ≡ began (old.waits + 1) (meaning old l)) → seen_of now failed stops new ≡ record (with_event (seen_of now failed stops old) waited) { waits = one_more old.waits }

@@ -1,5 +1,5 @@
 -- A change at one place, and what it means of each link.
-use Rattle.std.proofs.Common.{◌≡◌, ◌≢◌, ◌⊎◌, ⊎_elim, ℕ, ◌+◌, ◌-◌, ◌%◌, ◌^◌, ◌<◌, ◌≤◌, List, length, get_or, refl, sym, ap, ◌∙◌, Bool, true, false, cond, subst, inl, inr, arith}
+use Rattle.std.proofs.Common.{◌≡◌, ◌≢◌, ℕ, ◌+◌, ◌-◌, ◌%◌, ◌^◌, ◌<◌, ◌≤◌, List, length, get_or, refl, sym, ap, ◌∙◌, Bool, true, false, cond, subst, inl, inr, arith}
 use Rattle.std.specs.Prelude.{◌==◌, ◌||◌, ◌&&◌, nat_lt, slice_set}
 use Rattle.std.specs.List.{All}
 use Rattle.std.proofs.lemmas.Bool.{cases_eq, cases_lt, false≢true}
@@ -9,7 +9,7 @@ use Rattle.std.proofs.lemmas.Grind.{common_steps}
 use Rattle.std.proofs.lemmas.List.Elements.{All-get_or}
 use Rattle.mio_world.specs.declared.slot.Slot.{Slot}
 use Rattle.mio_world.specs.declared.slot.Asked.{Asked}
-use Rattle.mio_world.specs.Slots.{TableView, Meaning, meaning, meaning_at, slot_at, no_slot, come_at, open_at, asked_at, untouched, never_come, new_meaning, shut_meaning, after_read, after_write, faults_after, read_failed, write_failed, Put}
+use Rattle.mio_world.specs.Slots.{Meaning, meaning, meaning_at, slot_at, no_slot, come_at, open_at, asked_at, untouched, never_come, new_meaning, shut_meaning, after_read, after_write, faults_after, read_failed, write_failed, Put}
 use Rattle.link_world.specs.declared.world.LinkRead.{LinkRead}
 use Rattle.link_world.specs.declared.world.LinkWrite.{LinkWrite}
 use Rattle.mio_world.specs.Tables.{IsOpenAt, IsOpenMeaning, Given, AreWithin, table_of, read_meaning, write_meaning, began}
@@ -88,9 +88,14 @@ asked_next waits a within = elim (cases_eq a.wait waits) [
   | inr ne ↦ let x : (a.wait == waits + 1) ≡ false = grind (arith, nat_tests, within) in let y : (a.wait + 1 == waits + 1) ≡ false = grind (arith, nat_tests, ne) in let z : (a.wait == waits) ≡ false = grind (arith, nat_tests, ne) in rw x (rw y (rw z (last (a.wait + 1 == waits))))
 ]
   where
-    last : (b : Bool) → untouched (waits + 1) ≡ record { wait = waits + 1; reads = 0; read_quiet = false; write_quiet = false;
-        read_was_quiet = (cond b (record { wait = waits; reads = 0; read_quiet = false; write_quiet = false; read_was_quiet = a.read_quiet; write_was_quiet = a.write_quiet }) (untouched waits)).read_quiet;
-        write_was_quiet = (cond b (record { wait = waits; reads = 0; read_quiet = false; write_quiet = false; read_was_quiet = a.read_quiet; write_was_quiet = a.write_quiet }) (untouched waits)).write_quiet }
+    last : (b : Bool) → untouched (waits + 1) ≡ record {
+      wait = waits + 1;
+      reads = 0;
+      read_quiet = false;
+      write_quiet = false;
+      read_was_quiet = (cond b (record { wait = waits; reads = 0; read_quiet = false; write_quiet = false; read_was_quiet = a.read_quiet; write_was_quiet = a.write_quiet }) (untouched waits)).read_quiet;
+      write_was_quiet = (cond b (record { wait = waits; reads = 0; read_quiet = false; write_quiet = false; read_was_quiet = a.read_quiet; write_was_quiet = a.write_quiet }) (untouched waits)).write_quiet;
+    }
     last true = refl
     last false = refl
 
@@ -148,8 +153,10 @@ given_from slots waits at link o s within read shut home number own given is_ope
   where
     is : o ≡ get_or slots at no_slot
     is = read ∙ get_or_default slots at o no_slot within
+
     blank : link % 16384 ≡ at → meaning_at waits o link ≡ never_come waits
     blank place = shut_means waits o link false shut (number_new o o.given link refl number)
+
     other : (l : ℕ) → l ≢ link → meaning (record { slots = slice_set slots at s; waits = waits }) l ≡ meaning (record { slots = slots; waits = waits }) l
     other l ne = elim (cases_eq (l % 16384) at) [
       | inl same ↦
@@ -229,19 +236,19 @@ pub read_put : (slots : List Slot) (waits at link : ℕ) (o : Slot) (answer : Li
     Put (table_of waits slots) link (read_meaning (meaning (table_of waits slots) link) answer) (table_of waits (slice_set slots at (record o { faults = faults; asked = asked })))
 read_put slots waits at link o answer faults asked h is counted told =
     put_own slots waits at link (record o { faults = faults; asked = asked }) (read_meaning (meaning (table_of waits slots) link) answer) is (at_within slots waits link o at h is) h.own (ap (λ (k : Slot). k.link) (sym h.slot) ∙ h.own)
-      (ap (λ (f : ℕ). meaning_at waits (record o { faults = f; asked = asked }) link) counted
-       ∙ ap (λ (a : Asked). meaning_at waits (record o { faults = faults_after o.faults (read_failed answer); asked = a }) link) told
-       ∙ read_means waits link o answer h.is_open h.given h.own
-       ∙ ap (λ (k : Slot). read_meaning (meaning_at waits k link) answer) h.slot)
+    (ap (λ (f : ℕ). meaning_at waits (record o { faults = f; asked = asked }) link) counted
+    ∙ ap (λ (a : Asked). meaning_at waits (record o { faults = faults_after o.faults (read_failed answer); asked = a }) link) told
+    ∙ read_means waits link o answer h.is_open h.given h.own
+    ∙ ap (λ (k : Slot). read_meaning (meaning_at waits k link) answer) h.slot)
 
 pub write_put : (slots : List Slot) (waits at link : ℕ) (o : Slot) (answer : LinkWrite) (faults : ℕ) (asked : Asked) → IsOpenAt (table_of waits slots) link o → at ≡ link % 16384 → faults ≡ faults_after o.faults (write_failed answer) → asked ≡ after_write (asked_at waits o.asked) answer →
     Put (table_of waits slots) link (write_meaning (meaning (table_of waits slots) link) answer) (table_of waits (slice_set slots at (record o { faults = faults; asked = asked })))
 write_put slots waits at link o answer faults asked h is counted told =
     put_own slots waits at link (record o { faults = faults; asked = asked }) (write_meaning (meaning (table_of waits slots) link) answer) is (at_within slots waits link o at h is) h.own (ap (λ (k : Slot). k.link) (sym h.slot) ∙ h.own)
-      (ap (λ (f : ℕ). meaning_at waits (record o { faults = f; asked = asked }) link) counted
-       ∙ ap (λ (a : Asked). meaning_at waits (record o { faults = faults_after o.faults (write_failed answer); asked = a }) link) told
-       ∙ write_means waits link o answer h.is_open h.given h.own
-       ∙ ap (λ (k : Slot). write_meaning (meaning_at waits k link) answer) h.slot)
+    (ap (λ (f : ℕ). meaning_at waits (record o { faults = f; asked = asked }) link) counted
+    ∙ ap (λ (a : Asked). meaning_at waits (record o { faults = faults_after o.faults (write_failed answer); asked = a }) link) told
+    ∙ write_means waits link o answer h.is_open h.given h.own
+    ∙ ap (λ (k : Slot). write_meaning (meaning_at waits k link) answer) h.slot)
 
 pub close_put : (slots : List Slot) (waits at link : ℕ) (o : Slot) → IsOpenAt (table_of waits slots) link o → at ≡ link % 16384 →
     Put (table_of waits slots) link (shut_meaning waits) (table_of waits (slice_set slots at (record o { is_open = false })))

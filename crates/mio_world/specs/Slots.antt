@@ -1,5 +1,5 @@
 -- What is meant of a link by what stands at its place.
-use Rattle.std.specs.Prelude.{◌≡◌, ◌≢◌, ℕ, ◌+◌, ◌%◌, ◌^◌, ◌-◌, ◌<◌, ◌==◌, ◌||◌, ◌&&◌, List, Bool, true, false, cond, nat_lt, slice_index_or, Option, None}
+use Rattle.std.specs.Prelude.{◌≡◌, ◌≢◌, ℕ, ◌+◌, ◌%◌, ◌^◌, ◌-◌, ◌==◌, ◌||◌, ◌&&◌, List, Bool, true, false, cond, nat_lt, slice_index_or, None}
 use Rattle.px_base.specs.Bytes.{one_more}
 use Rattle.link_world.specs.declared.world.LinkRead.{LinkRead}
 use Rattle.link_world.specs.declared.world.LinkRead.TheVariants as read
@@ -17,8 +17,8 @@ untouched waits = record { wait = waits; reads = 0; read_quiet = false; write_qu
 abbrev pub asked_at : ℕ → Asked → Asked
 asked_at waits a = cond (a.wait == waits) a
     (cond (a.wait + 1 == waits)
-        (record { wait = waits; reads = 0; read_quiet = false; write_quiet = false; read_was_quiet = a.read_quiet; write_was_quiet = a.write_quiet })
-        (untouched waits))
+    (record { wait = waits; reads = 0; read_quiet = false; write_quiet = false; read_was_quiet = a.read_quiet; write_was_quiet = a.write_quiet })
+    (untouched waits))
 
 abbrev pub after_read : Asked → LinkRead → Asked
 after_read a answer = record a { reads = one_more a.reads; read_quiet = is_read_quiet answer }

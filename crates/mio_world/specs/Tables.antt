@@ -1,5 +1,5 @@
 -- What the calls on the places of links need and leave.
-use Rattle.std.specs.Prelude.{◌≡◌, ◌≢◌, ℕ, ◌≤◌, ◌<◌, ◌^◌, List, Bool, true, false}
+use Rattle.std.specs.Prelude.{◌≡◌, ℕ, ◌≤◌, ◌<◌, ◌^◌, List, true, false}
 use Rattle.std.specs.List.{All}
 use Rattle.link_world.specs.declared.world.LinkRead.{LinkRead}
 use Rattle.link_world.specs.declared.world.LinkWrite.{LinkWrite}

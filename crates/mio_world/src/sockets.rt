@@ -5,7 +5,7 @@ ghost use Rattle.mio_world.specs.Fits.{FitsRead, FitsWrite};
 use crate::address::{ip_of, open_stream, socket_addr};
 use crate::table::PLACES;
 use ip_net::Ip;
-use link_world::{Listen, LinkRead, LinkWrite};
+use link_world::{LinkRead, LinkWrite, Listen};
 use mio::net::{TcpListener, TcpStream};
 use mio::{Events, Interest, Poll, Token};
 use px_base::{Bytes, Memory};
@@ -100,7 +100,9 @@ pub(crate) struct Sockets {
     events: Events<Global>,
     doors: Vec<Door>,
     lines: Vec<Line>,
-    free: Vec<usize>,
+    /// The places without a stream, the one that is free for the longest first: so all use up
+    /// their numbers alike.
+    free: VecDeque<usize>,
     queue: Vec<usize>,
     parked: VecDeque<Parked>,
     /// A link has more to give than was read.
@@ -113,13 +115,13 @@ impl Sockets {
         let poll = Poll::new(rt)?;
         let events = Events::with_capacity(alloc, 1024)?;
         let mut lines = Vec::with_capacity(alloc, PLACES)?;
-        let mut free = Vec::with_capacity(alloc, PLACES)?;
+        let mut free = VecDeque::with_capacity(alloc, PLACES)?;
         for at in 0..PLACES {
             lines.push(Line {
                 ready: IDLE,
                 stream: None,
             })?;
-            free.push(PLACES - 1 - at)?;
+            free.push_back(at)?;
         }
         Ok(Sockets {
             poll,
@@ -151,12 +153,12 @@ impl Sockets {
 
     /// The place that the next link gets.
     pub fn next_place(&self) -> Option<usize> {
-        self.free.last().copied()
+        self.free.front().copied()
     }
 
     /// That place is no more free.
     pub fn take_place(&mut self) {
-        self.free.pop();
+        self.free.pop_front();
     }
 
     /// The next client that stands at a listener.
@@ -254,7 +256,7 @@ impl Sockets {
             ready: IDLE,
             stream: None,
         };
-        let _ = self.free.push(at);
+        let _ = self.free.push_back(at);
     }
 
     // Closes the streams that have waited long enough.
@@ -333,7 +335,7 @@ impl Sockets {
             if line.ready.parked && ended {
                 line.ready = IDLE;
                 line.stream = None;
-                let _ = self.free.push(at);
+                let _ = self.free.push_back(at);
             }
         }
     }

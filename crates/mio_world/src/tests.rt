@@ -72,6 +72,9 @@ fn expect_write<N: Net + Clock + Drop>(
     assert!(rt; world.write(link, text.as_bytes()) == LinkWrite::Took(text.len()));
 }
 
+// A world may be moved into a thread.
+fn may_move<T: Send>(_world: &T) {}
+
 fn exchange<N: Net + Clock + Drop, R: Abort + Wait>(
     rt: &R,
     world: &mut MioWorld<N, MemorySink>,
@@ -125,6 +128,7 @@ fn dials_itself(rt: HostRuntime) -> Result<(), Fail> {
     let Ok(mut world) = MioWorld::bind(rt, alloc, &listens, Access::Lines(sink), Some(1)) else {
         panic!(rt; "the port is in use");
     };
+    may_move(&world);
     exchange(&rt, &mut world)?;
     notes(&rt, alloc, &mut world)?;
     let none: Access<MemorySink> = Access::Nowhere;

@@ -1,4 +1,4 @@
-use Rattle.std.proofs.Common.{rules, arith, ◌≤◌}
+use Rattle.std.proofs.Common.{rules, ◌≤◌}
 use Rattle.std.proofs.lemmas.List.Elements.{All-set}
 use Rattle.mio_world.specs.declared.slot.Slot.{Slot}
 use Rattle.mio_world.proofs.Places.{at_within, close_put, close_within}

@@ -1,4 +1,4 @@
-use Rattle.std.proofs.Common.{rules, arith, refl}
+use Rattle.std.proofs.Common.{rules, refl}
 use Rattle.mio_world.proofs.Places.{given_from}
 use Rattle.mio_world.proofs.table.give_at.Goals as goal
 

@@ -1,4 +1,4 @@
-use Rattle.std.proofs.Common.{rules, arith, refl}
+use Rattle.std.proofs.Common.{rules}
 use Rattle.mio_world.proofs.Places.{open_means_at}
 use Rattle.mio_world.proofs.table.Table.find.Goals as goal
 

@@ -1,4 +1,4 @@
-use Rattle.std.proofs.Common.{rules, arith, false}
+use Rattle.std.proofs.Common.{false}
 use Rattle.mio_world.proofs.Did.{came_lately}
 use Rattle.mio_world.proofs.world.MioWorldWorld.arrival.Goals as goal
 

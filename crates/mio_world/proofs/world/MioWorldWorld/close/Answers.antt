@@ -1,4 +1,3 @@
-use Rattle.std.proofs.Common.{rules, arith}
 use Rattle.mio_world.proofs.Did.{close_did, only_at}
 use Rattle.mio_world.proofs.world.MioWorldWorld.close.Goals as goal
 

@@ -1,4 +1,3 @@
-use Rattle.std.proofs.Common.{rules, arith}
 use Rattle.mio_world.proofs.Did.{came_lately}
 use Rattle.mio_world.proofs.world.MioWorldWorld.dial.Goals as goal
 

@@ -1,4 +1,3 @@
-use Rattle.std.proofs.Common.{rules, arith}
 use Rattle.mio_world.proofs.Did.{read_did, read_lately}
 use Rattle.mio_world.proofs.world.MioWorldWorld.read.Goals as goal
 

@@ -1,4 +1,3 @@
-use Rattle.std.proofs.Common.{rules, arith}
 use Rattle.mio_world.proofs.Did.{write_did, write_lately}
 use Rattle.mio_world.proofs.world.MioWorldWorld.write.Goals as goal
 
