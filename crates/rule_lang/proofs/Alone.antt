@@ -34,7 +34,7 @@ blank_is : (c d : ℕ) (b : Bool) → is_ascii_alphabetic d ≡ false → (b || 
 blank_is c d true letter h other = other refl
 blank_is c d false letter h other = subst (λ x. is_ascii_alphabetic x ≡ false) (sym (eqb-true c d h)) letter
 
-blank_no_letter : (c : ℕ) → is_blank c ≡ true → is_ascii_alphabetic c ≡ false
+pub blank_no_letter : (c : ℕ) → is_blank c ≡ true → is_ascii_alphabetic c ≡ false
 blank_no_letter c h = blank_is c 10 (((c == 32) || (c == 9)) || (c == 13)) refl h
     (λ h2. blank_is c 13 ((c == 32) || (c == 9)) refl h2 (λ h3. blank_is c 9 (c == 32) refl h3 (λ h4. subst (λ x. is_ascii_alphabetic x ≡ false) (sym (eqb-true c 32 h4)) refl)))
 

@@ -111,7 +111,7 @@ own_name ClientIp = refl
 call_is : (name values : List ℕ) → name ++ 40 ∷ [] ++ values ++ 41 ∷ [] ≡ name ++ ([] ++ 40 ∷ (values ++ 41 ∷ []))
 call_is name values = append_assoc (name ++ 40 ∷ []) values (41 ∷ []) ∙ append_assoc name (40 ∷ []) (values ++ 41 ∷ [])
 
-printed_call : (matcher : Matcher) (key value : List ℕ) → HasItsKey matcher key → TakesKey matcher key → TakesValue matcher value → Calls (call_print matcher key value) matcher key value
+pub printed_call : (matcher : Matcher) (key value : List ℕ) → HasItsKey matcher key → TakesKey matcher key → TakesValue matcher value → Calls (call_print matcher key value) matcher key value
 printed_call matcher key value has takes_key takes_value = record {
   name = name_of_matcher matcher;
   before = [];
@@ -129,7 +129,7 @@ printed_call matcher key value has takes_key takes_value = record {
 abbrev ReadsAs : Level → Tree → List ℕ → Type 0
 ReadsAs at rule text = Reads at text rule
 
-operator : (a b : List ℕ) (x y : ℕ) → a ++ 32 ∷ [] ++ x ∷ y ∷ 32 ∷ b ≡ a ++ 32 ∷ x ∷ y ∷ 32 ∷ [] ++ b
+pub operator : (a b : List ℕ) (x y : ℕ) → a ++ 32 ∷ [] ++ x ∷ y ∷ 32 ∷ b ≡ a ++ 32 ∷ x ∷ y ∷ 32 ∷ [] ++ b
 operator a b x y = append_assoc a (32 ∷ []) (x ∷ y ∷ 32 ∷ b) ∙ sym (append_assoc a (32 ∷ x ∷ y ∷ 32 ∷ []) b)
 
 bare_and : (at : Level) (a b : Tree) (left right : List ℕ) → and_is_bare at ≡ true → Reads level.And left a → Reads level.Unary right b

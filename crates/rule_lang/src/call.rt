@@ -68,7 +68,7 @@ fn with_matcher(
     match values {
         [value] => with_one(alloc, text, matcher, *value),
         [key, value] => with_two(alloc, text, matcher, *key, *value),
-        _ => Err(CallFault::Arity { at: name.start }),
+        _ => unreachable!(),
     }
 }
 

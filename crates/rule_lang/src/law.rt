@@ -1,8 +1,9 @@
 //! What holds of every rule and its print.
-ghost use Rattle.std.specs.Prelude.{◌≡◌, List, ℕ, Result};
+ghost use Rattle.std.specs.Prelude.{◌≡◌, ◌≤◌, List, ℕ, Result, length};
 ghost use Rattle.rule_lang.specs.Trees.{Tree};
 ghost use Rattle.rule_lang.specs.declared.read.RuleFault.{RuleFault};
-ghost use Rattle.rule_lang.specs.Reading.{IsOutcome, WantsMemory};
+ghost use Rattle.rule_lang.specs.Reading.{HasForm, IsOutcome, IsReadAs, Means, WantsMemory};
+ghost use Rattle.rule_lang.specs.Forms.{Form};
 ghost use Rattle.rule_lang.specs.Prints.{rule_print};
 ghost use Rattle.rule_lang.specs.Grammar.{IsReadable, IsRuleText};
 
@@ -15,4 +16,15 @@ pub fn prints_are_rule_texts()
 /// of `read_rule`, where it isn't want of memory, is that one, and each fault comes exactly there.
 pub fn outcomes_are_alone()
     ensures { (text : List ℕ) (a b : Result Tree RuleFault) → IsOutcome text a → IsOutcome text b → ¬ (WantsMemory a) → ¬ (WantsMemory b) → a ≡ b }
+{}
+
+/// Each text of the grammar has a form, and the form means that rule. So `read_rule` reads it as
+/// that rule where it has at most 4,096 bytes and its depth is at most 32.
+pub fn rule_texts_have_forms()
+    ensures { (text : List ℕ) (rule : Tree) → IsRuleText text rule → (f : Form) × HasForm text f × Means text f rule }
+{}
+
+/// A rule that was read is read again from its print, where that has at most 4,096 bytes.
+pub fn prints_are_read_again()
+    ensures { (text : List ℕ) (rule : Tree) → IsReadAs text rule → length (rule_print rule) ≤ 4096 → IsReadAs (rule_print rule) rule }
 {}
