@@ -50,15 +50,17 @@ settled left method gave content b reply is all =
     elim (eqb_tells left 0) [
       | inl none ↦ subst P (sym none.0) (record { reply = reply; reply_is = is; whole = omega (arith, all, none.1) })
       | inr some ↦ subst P (sym some.0)
-        ( (record { goes_on = refl; works = refl }
-        , record { reply = reply; reply_is = is; left_is = all; short = omega (arith, all, some.1) }) )
+          ((
+            record { goes_on = refl; works = refl },
+            record { reply = reply; reply_is = is; left_is = all; short = omega (arith, all, some.1) },
+          ))
     ]
 
 -- a piece behind the head
 pub more_content : (message method took gave content piece : List ℕ) (b : BackView) → b.state ≡ HeadRead
     → Exchanged message method took gave content false false b
     → Exchanged message method took (gave ++ piece) (content ++ take (min b.left (length piece)) piece) false false
-      (with_left b (b.left - min b.left (length piece)))
+    (with_left b (b.left - min b.left (length piece)))
 more_content message method took gave content piece b is x =
     let held : InUse false false × Continues content b = subst (λ s. StateHolds s method gave content false false b) is x.state in
     let reply = held.1.reply in
@@ -66,21 +68,21 @@ more_content message method took gave content piece b is x =
     let had : HasReply method gave reply content = subst (λ r. Receives method gave content r) held.1.reply_is x.received in
     let within = head_within method gave reply had.head had.at in
     let more : take k (drop had.head gave ++ piece) ≡ take k (drop had.head gave) ++ take (min b.left (length piece)) piece =
-      grows k b.left (drop had.head gave) piece (ap (λ c. b.left + length c) (sym had.content_is) ∙ held.1.left_is)
-        (subst (λ c. length c < k) had.content_is held.1.short) in
+    grows k b.left (drop had.head gave) piece (ap (λ c. b.left + length c) (sym had.content_is) ∙ held.1.left_is)
+    (subst (λ c. length c < k) had.content_is held.1.short) in
     record {
       method_is = x.method_is;
       sent = x.sent;
       received = subst (λ r. Receives method (gave ++ piece) (content ++ take (min b.left (length piece)) piece) r) (sym held.1.reply_is)
-        (record {
-          head = had.head;
-          at = reply_stays method gave piece reply had.head had.at;
-          content_is = ap (λ c. c ++ take (min b.left (length piece)) piece) had.content_is ∙ sym more
-            ∙ ap (take k) (sym (drop-append-le had.head gave piece within));
-        });
+          (record {
+            head = had.head;
+            at = reply_stays method gave piece reply had.head had.at;
+            content_is = ap (λ c. c ++ take (min b.left (length piece)) piece) had.content_is ∙ sym more
+                ∙ ap (take k) (sym (drop-append-le had.head gave piece within));
+          });
       state = settled (b.left - min b.left (length piece)) method (gave ++ piece) (content ++ take (min b.left (length piece)) piece) b
-        reply held.1.reply_is
-        (omega (arith, held.1.left_is, length-append content (take (min b.left (length piece)) piece), length-take (min b.left (length piece)) piece));
+          reply held.1.reply_is
+          (omega (arith, held.1.left_is, length-append content (take (min b.left (length piece)) piece), length-take (min b.left (length piece)) piece));
     }
 
 -- what a window leaves of the piece
@@ -92,7 +94,7 @@ window_on gave piece = append_assoc gave (take (16384 - length gave) piece) (dro
 pub window_all : (gave piece : List ℕ) → length (window gave piece) < 16384 → window gave piece ≡ gave ++ piece
 window_all gave piece room =
     ap (λ xs. gave ++ xs) (take_all (16384 - length gave) piece
-      (omega (arith, room, length-append gave (take (16384 - length gave) piece), length-take (16384 - length gave) piece)))
+    (omega (arith, room, length-append gave (take (16384 - length gave) piece), length-take (16384 - length gave) piece)))
 
 waits_of : (method gave content : List ℕ) (b : BackView) → b.state ≡ Waiting → StateHolds b.state method gave content false false b → Waits gave b
 waits_of method gave content b is holds =
@@ -119,30 +121,30 @@ head_came message method took gave content piece b c reply end is x found same_m
     let waits = waits_of method gave content b is x.state in
     let none = none_of method gave content b waits.none x.received in
     let at : IsReplyAt method (window gave piece) reply end =
-      subst (λ h. IsReplyAt method (window h piece) reply end) waits.kept
-        (subst (λ m. IsReplyAt m (window b.head piece) reply end) x.method_is found) in
+    subst (λ h. IsReplyAt method (window h piece) reply end) waits.kept
+    (subst (λ m. IsReplyAt m (window b.head piece) reply end) x.method_is found) in
     let past : length gave ≤ end =
-      omega (arith, at.length_is, longer gave (take (16384 - length gave) piece) at.head (drop end (window gave piece)) waits.begun.unfinished at.reads) in
+    omega (arith, at.length_is, longer gave (take (16384 - length gave) piece) at.head (drop end (window gave piece)) waits.begun.unfinished at.reads) in
     let whole : IsReplyAt method (gave ++ piece) reply end =
-      subst (λ xs. IsReplyAt method xs reply end) (window_on gave piece)
-        (reply_stays method (window gave piece) (drop (16384 - length gave) piece) reply end at) in
+    subst (λ xs. IsReplyAt method xs reply end) (window_on gave piece)
+    (reply_stays method (window gave piece) (drop (16384 - length gave) piece) reply end at) in
     let from_gave : from ≡ end - length gave = from_is ∙ ap (λ h. end - length h) waits.kept in
     let rest : drop end (gave ++ piece) ≡ drop from piece = behind gave piece end past ∙ ap (λ n. drop n piece) (sym from_gave) in
     let len_drop : len ≡ min k (length (drop from piece)) = len_is ∙ ap (min k) (sym (length-drop from piece)) in
     let content_is : content ++ take len (drop from piece) ≡ take k (drop end (gave ++ piece)) =
-      ap (λ xs. xs ++ take len (drop from piece)) none
-      ∙ ap (λ n. take n (drop from piece)) len_drop ∙ take_min k (drop from piece) ∙ ap (take k) (sym rest) in
+    ap (λ xs. xs ++ take len (drop from piece)) none
+    ∙ ap (λ n. take n (drop from piece)) len_drop ∙ take_min k (drop from piece) ∙ ap (take k) (sym rest) in
     record {
       method_is = same_method ∙ x.method_is;
       sent = x.sent ∙ ap (λ p. took ++ p) (sym same_pending);
       received = subst (λ r. Receives method (gave ++ piece) (content ++ take len (drop from piece)) r) (sym has)
-        (record {
-          head = end;
-          at = whole;
-          content_is = content_is ∙ ap (λ n. take n (drop end (gave ++ piece))) k_is;
-        });
+          (record {
+            head = end;
+            at = whole;
+            content_is = content_is ∙ ap (λ n. take n (drop end (gave ++ piece))) k_is;
+          });
       state = settled (k - len) method (gave ++ piece) (content ++ take len (drop from piece)) c reply has
-        (omega (arith, k_is, len_drop, length-append content (take len (drop from piece)), length-take len (drop from piece), ap length none));
+          (omega (arith, k_is, len_drop, length-append content (take len (drop from piece)), length-take len (drop from piece), ap length none));
     }
 
 -- the piece with which no reply can come
@@ -155,16 +157,16 @@ bad_came message method took gave content piece b c is x found same_method same_
     let waits = waits_of method gave content b is x.state in
     let none = none_of method gave content b waits.none x.received in
     let window_never : HasNoReply method (window gave piece) =
-      subst (λ h. HasNoReply method (window h piece)) waits.kept (subst (λ m. HasNoReply m (window b.head piece)) x.method_is found) in
+    subst (λ h. HasNoReply method (window h piece)) waits.kept (subst (λ m. HasNoReply m (window b.head piece)) x.method_is found) in
     let never : HasNoReply method (gave ++ piece) =
-      subst (HasNoReply method) (window_on gave piece) (never_more method (window gave piece) (drop (16384 - length gave) piece) window_never) in
+    subst (HasNoReply method) (window_on gave piece) (never_more method (window gave piece) (drop (16384 - length gave) piece) window_never) in
     record {
       method_is = same_method ∙ x.method_is;
       sent = x.sent ∙ ap (λ p. took ++ p) (sym same_pending);
       received = subst (λ r. Receives method (gave ++ piece) (content ++ []) r) (sym (same_reply ∙ waits.none))
-        ((not_yet method (gave ++ piece) never, append-nil content ∙ none));
+          ((not_yet method (gave ++ piece) never, append-nil content ∙ none));
       state = subst (λ s. StateHolds s method (gave ++ piece) (content ++ []) false false c) (sym state)
-        ((never, same_reply ∙ waits.none));
+          ((never, same_reply ∙ waits.none));
     }
 
 -- the piece with which the head isn't whole
@@ -183,10 +185,12 @@ part_came message method took gave content piece b c is x found kept same_method
       method_is = same_method ∙ x.method_is;
       sent = x.sent ∙ ap (λ p. took ++ p) (sym same_pending);
       received = subst (λ r. Receives method (gave ++ piece) (content ++ []) r) (sym (same_reply ∙ waits.none))
-        ((λ h rest reads valid. begun.unfinished h rest reads, append-nil content ∙ none));
+          ((λ h rest reads valid. begun.unfinished h rest reads, append-nil content ∙ none));
       state = subst (λ s. StateHolds s method (gave ++ piece) (content ++ []) false false c) (sym (same_state ∙ is))
-        ( (record { goes_on = refl; works = refl }
-        , record { none = same_reply ∙ waits.none; kept = kept ∙ ap (λ h. window h piece) waits.kept ∙ all; begun = begun }) );
+          ((
+            record { goes_on = refl; works = refl },
+            record { none = same_reply ∙ waits.none; kept = kept ∙ ap (λ h. window h piece) waits.kept ∙ all; begun = begun },
+          ));
     }
 
 -- the first bytes are the window
@@ -206,11 +210,11 @@ content_came message method took gave content piece b c from len is from_is len_
     let all : length piece ≡ length piece - 0 = omega arith in
     let size : min b.left (length piece) ≡ len = ap (min b.left) all ∙ sym len_is in
     let fresh : take (min b.left (length piece)) piece ≡ take len (drop from piece) =
-      ap (λ n. take n piece) size ∙ ap (λ k. take len (drop k piece)) (sym from_is) in
+    ap (λ n. take n piece) size ∙ ap (λ k. take len (drop k piece)) (sym from_is) in
     let left : with_left b (b.left - min b.left (length piece)) ≡ c = ap (λ n. with_left b (b.left - min b.left n)) all ∙ sym c_is in
     subst (λ d. Exchanged message method took (gave ++ piece) (content ++ take len (drop from piece)) false false d) left
-      (subst (λ xs. Exchanged message method took (gave ++ piece) (content ++ xs) false false (with_left b (b.left - min b.left (length piece)))) fresh
-        (more_content message method took gave content piece b is x))
+    (subst (λ xs. Exchanged message method took (gave ++ piece) (content ++ xs) false false (with_left b (b.left - min b.left (length piece)))) fresh
+    (more_content message method took gave content piece b is x))
 
 pub reply_came : (message method took gave content piece : List ℕ) (b c d : BackView) (reply : Reply) (end from len : ℕ)
     → b.state ≡ Waiting → IsReplyAt b.method (window b.head piece) reply end
@@ -220,8 +224,8 @@ pub reply_came : (message method took gave content piece : List ℕ) (b c d : Ba
     → Exchanged message method took (gave ++ piece) (content ++ take len (drop from piece)) false false d
 reply_came message method took gave content piece b c d reply end from len is found same_method same_pending has left_is from_is len_is d_is x =
     subst (λ v. Exchanged message method took (gave ++ piece) (content ++ take len (drop from piece)) false false v)
-      (ap (λ n. with_left c (c.left - n)) len_is ∙ sym d_is)
-      (head_came message method took gave content piece b c reply end is x found same_method same_pending has c.left from len left_is from_is len_is)
+    (ap (λ n. with_left c (c.left - n)) len_is ∙ sym d_is)
+    (head_came message method took gave content piece b c reply end is x found same_method same_pending has c.left from len left_is from_is len_is)
 
 -- an open exchange whose head isn't whole
 pub open_waits : (s : BackState) → IsOpen s → (s ≡ HeadRead → ⊥) → s ≡ Waiting

@@ -100,10 +100,11 @@ same_reply method status reason fields a b x y =
 pub one_reply : (method gave : List ℕ) (a b : Reply) (n m : ℕ) → IsReplyAt method gave a n → IsReplyAt method gave b m
     → (a ≡ b) × (n ≡ m)
 one_reply method gave a b n m x y =
-    let same = (response_unique gave x.head y.head (drop n gave) (drop m gave) x.reads y.reads).0 in
-    ( same_reply method (status_code y.head) (reason_phrase y.head.reason) (fields_of y.head) a b
-        (subst (λ h. IsReplyOf method (status_code h) (reason_phrase h.reason) (fields_of h) a) same x.reply_is) y.reply_is
-    , x.length_is ∙ ap (λ h. length (print_response h)) same ∙ sym y.length_is )
+    let same = (response_unique gave x.head y.head (drop n gave) (drop m gave) x.reads y.reads).0 in (
+      same_reply method (status_code y.head) (reason_phrase y.head.reason) (fields_of y.head) a b
+          (subst (λ h. IsReplyOf method (status_code h) (reason_phrase h.reason) (fields_of h) a) same x.reply_is) y.reply_is,
+      x.length_is ∙ ap (λ h. length (print_response h)) same ∙ sym y.length_is,
+    )
 
 -- a fault, which isn't a switch of protocols, is one of the framing
 pub faulty : (version status : ℕ) (fields : List Field) (f : ReplyFault) → IsReplyFault version status fields f → 200 ≤ status
@@ -173,7 +174,7 @@ pub found_faulty : (method gave : List ℕ) (lines : List HeaderSpan) (s : Reply
 found_faulty method gave lines s h f at final is =
     let fault = subst (λ fs. IsReplyFault s.version s.status fs f) (fields_found gave lines s h at) is in
     found_invalid method gave lines s h at (λ valid.
-      faulty s.version s.status (fields_of h) f fault final (subst (λ version. IsFramed version (fields_of h)) (sym at.version) valid.sound))
+    faulty s.version s.status (fields_of h) f fault final (subst (λ version. IsFramed version (fields_of h)) (sym at.version) valid.sound))
 
 -- it is too long
 pub found_long : (method gave : List ℕ) (lines : List HeaderSpan) (s : ReplySpans) (h : ResponseHead)
@@ -211,7 +212,7 @@ none_empty : (h : ResponseHead) (rest : List ℕ) → [] ≡ print_response h ++
 none_empty h rest e =
     let more = h.digits ++ (print_reason h.reason ++ (print_end h.line_end ++ (print_section h.fields h.last ++ rest))) in
     some_bytes (print_blank h.blank) (print_version h.minor ++ 32 ∷ more)
-      (omega (arith, length-append (print_version h.minor) (32 ∷ more))) (e ∙ print_response-append h rest)
+    (omega (arith, length-append (print_version h.minor) (32 ∷ more))) (e ∙ print_response-append h rest)
 
 -- no bytes begin a head
 pub begun_empty : IsBegun []

@@ -102,7 +102,7 @@ impl Back {
         ensures reached { (message method took gave content : List ℕ) →
             Exchanged message method took gave content false false self.old →
             IfOk result (λ fresh. Exchanged message method took (gave ++ piece.now)
-                (content ++ take fresh.len (drop fresh.from piece.now)) false false self.new) }
+            (content ++ take fresh.len (drop fresh.from piece.now)) false false self.new) }
     {
         if let BackState::HeadRead = self.state {
             return Ok(self.take_content(piece, 0));

@@ -28,12 +28,7 @@ fn exchange(alloc: Global, port: u16) -> Result<Back, AllocError> {
 }
 
 // Feeds a piece, and appends its content.
-fn feed(
-    alloc: Global,
-    back: &mut Back,
-    piece: &[u8],
-    out: &mut Vec<u8>,
-) -> Result<(), AllocError> {
+fn feed(alloc: Global, back: &mut Back, piece: &[u8], out: &mut Vec<u8>) -> Result<(), AllocError> {
     if back.state().is_open() {
         let content = back.bytes(alloc, piece)?;
         out.extend_from_slice(&piece[content.from..content.from + content.len])?;
@@ -98,7 +93,10 @@ fn heads(rt: &impl Abort, alloc: Global) -> Result<(), Fail> {
     assert_eq!(rt; states, wanted);
     let bad = [
         state_after(alloc, b"HTTP/1.1 200 OK\r\nContent-Length: 1048577\r\n\r\n")?,
-        state_after(alloc, b"HTTP/1.1 200 OK\r\nTransfer-Encoding: chunked\r\n\r\n")?,
+        state_after(
+            alloc,
+            b"HTTP/1.1 200 OK\r\nTransfer-Encoding: chunked\r\n\r\n",
+        )?,
         state_after(alloc, b"HTTP/1.1 200 OK\r\n\r\n")?,
         state_after(alloc, b"HTTP/1.1 100 Continue\r\n\r\n")?,
         state_after(alloc, b"HTTP/1.1 600 No\r\nContent-Length: 0\r\n\r\n")?,
@@ -120,7 +118,10 @@ fn state_after_value(alloc: Global, count: usize) -> Result<BackState, AllocErro
 
 fn long_heads(rt: &impl Abort, alloc: Global) -> Result<(), Fail> {
     assert_eq!(rt; state_after_value(alloc, 16341)?, BackState::Done);
-    assert_eq!(rt; state_after_value(alloc, 16342)?, BackState::Broken(BackCause::Bad));
+    assert_eq!(rt;
+        state_after_value(alloc, 16342)?,
+        BackState::Broken(BackCause::Bad)
+    );
     Ok(())
 }
 
@@ -131,7 +132,12 @@ fn endings(rt: &impl Abort, alloc: Global) -> Result<(), Fail> {
     back.failed();
     assert_eq!(rt; back.state(), BackState::Broken(BackCause::Ended));
     let mut cut = exchange(alloc, 80)?;
-    feed(alloc, &mut cut, b"HTTP/1.1 200 OK\r\nContent-Length: 2\r\n\r\no", &mut out)?;
+    feed(
+        alloc,
+        &mut cut,
+        b"HTTP/1.1 200 OK\r\nContent-Length: 2\r\n\r\no",
+        &mut out,
+    )?;
     cut.end();
     assert_eq!(rt; cut.state(), BackState::Broken(BackCause::Ended));
     assert_eq!(rt; cut.reply().is_some(), true);
