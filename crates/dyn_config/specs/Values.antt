@@ -1,9 +1,8 @@
 -- The ranges of values.
-use Rattle.std.specs.Prelude.{ℕ, ℤ, pos, negsuc, ◌==◌, Bool, true, false, not, ◌&&◌, ◌||◌, nat_le, List, [], ◌∷◌, bytes_eq, codes}
+use Rattle.std.specs.Prelude.{ℕ, ℤ, pos, negsuc, ◌==◌, Bool, true, false, not, ◌&&◌, ◌||◌, nat_le, List, [], ◌∷◌, length, bytes_eq, codes}
 use Rattle.std.specs.List.{list_all}
 use Rattle.std.specs.Str.{str_eq_ignore_ascii_case}
-use Rattle.http_header.specs.FieldName.{is_field_name}
-use Rattle.httparse.specs.Grammar.{is_value_byte}
+use Rattle.httparse.specs.Grammar.{is_token, is_value_byte}
 
 -- 0 to 2^31 - 1.
 abbrev pub is_weight : ℕ → Bool
@@ -20,6 +19,10 @@ is_time millis = nat_le 1 millis && nat_le millis 86400000
 abbrev pub is_size : ℤ → Bool
 is_size (pos n) = true
 is_size (negsuc n) = n == 0
+
+-- The name of a field line: a token (RFC 9110 section 5.6.2) of at most 65,535 bytes.
+abbrev pub is_field_name : List ℕ → Bool
+is_field_name text = is_token text && nat_le (length text) 65535
 
 -- The value of a field line.
 abbrev pub is_field_value : List ℕ → Bool

@@ -3,11 +3,21 @@
 
 mod config;
 mod fault;
+mod found;
+mod leaves;
 mod merged;
 mod middleware;
+mod numbers;
+mod options;
+mod ranges;
 mod references;
 mod router;
+mod rows;
+mod schema;
 mod service;
+mod tables;
+mod twins;
+mod walk;
 
 pub use config::Config;
 pub use fault::ConfigFault;
