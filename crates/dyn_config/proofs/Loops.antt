@@ -1,5 +1,5 @@
 -- Loops over the entries of a table, over rows and over lists, by what is left of them.
-use Rattle.std.proofs.Common.{◌≡◌, ℕ, zero, suc, ◌+◌, ◌<◌, ◌≤◌, Bool, true, false, cond, List, [], ◌∷◌, ◌++◌, map, length, drop, get_or, Option, Some, None, refl, sym, ap, ap₂, ◌∙◌, arith, add-one, if◌then◌else◌, IsTrue, ◌↔◌}
+use Rattle.std.proofs.Common.{◌≡◌, ℕ, zero, suc, ◌+◌, ◌<◌, ◌≤◌, Bool, true, false, cond, List, [], ◌∷◌, ◌++◌, map, length, drop, get_or, Option, Some, None, refl, sym, ap, ap₂, ◌∙◌, arith, add-one, append_assoc, append-nil, if◌then◌else◌, IsTrue, ◌↔◌}
 use Rattle.std.proofs.Math.Seq.{drop-cons}
 use Rattle.std.proofs.lemmas.List.{drop_all}
 use Rattle.std.specs.List.{slice_get, fold, list_any, list_all, flat_map, filter}
@@ -11,6 +11,9 @@ use Rattle.field_tree.specs.declared.values.Style.{Style}
 use Rattle.dyn_config.specs.declared.found.Found.{Found}
 use Rattle.dyn_config.specs.declared.found.Fault.{Fault}
 use Rattle.field_tree.specs.Keys.{walk_cmp}
+use Rattle.std.specs.Option.{unwrap_or}
+use Rattle.field_tree.specs.Trees.{table_of, entries_of}
+use Rattle.dyn_config.specs.Readings.{first_or, value_first, value_under, text_or, line_of, is_line}
 use Rattle.dyn_config.specs.Steps.{NextUnder}
 use Rattle.dyn_config.specs.declared.found.Cause.TheVariants.{Twice as twice}
 use Rattle.dyn_config.specs.Walk.{here, stops_in, row_stops, is_less, Entry, Stop, Check, Row, sooner, under_key, same_key, lesser_key, least_key, named_check, or_else, first_place, under, place_step}
@@ -127,7 +130,7 @@ least_ends entries i least all past h = sym (h ∙ ap (fold lesser_key least) (d
 
 pub not_empty : (entries : List Entry) (empty : Bool) → IsTrue empty ↔ (entries ≡ []) → empty ≡ false → 0 < length entries
 not_empty [] empty h e = absurd (cc (e, is_true empty (h.1 refl)))
-    where
+  where
     is_true : (b : Bool) → IsTrue b → b ≡ true
     is_true true h = refl
     is_true false h = absurd (cc)
@@ -148,3 +151,54 @@ pub row_two : (style : Style) (row : Row) (entries : List Entry) (at second : �
 row_two style row entries at second one two value n m k v k2 =
     let other = value_at entries second two k2 in
     ap (stops_in style row) (n.found one value k v ∙ ap (λ es. (one, value) ∷ es) (m.found two other.0 k2 other.1))
+
+name_at : (entries : List Entry) (i : ℕ) (value : Tree) → slice_get (values_of entries) i ≡ Some value → (key : List ℕ) × (slice_get (keys_of entries) i ≡ Some key)
+name_at [] i value v = absurd (cc)
+name_at (e ∷ es) zero value v = (e.0, refl)
+name_at (e ∷ es) (suc i) value v = name_at es i value v
+
+-- The value under a key of a table.
+pub value_found : (tree : Tree) (entries : List Entry) (key : List ℕ) (at : ℕ) (value : Tree) → NextUnder key entries 0 at → slice_get (values_of entries) at ≡ Some value → Some entries ≡ table_of tree → Some value ≡ value_under key tree
+value_found tree entries key at value n v e =
+    let name = name_at entries at value v in
+    sym (ap value_first (n.found name.0 value name.1 v)) ∙ ap (λ o. value_first (under_key key (unwrap_or o []))) e
+
+-- Field lines of a table.
+filter_split : {X : Type 0} (test : X → Bool) (x : X) (xs : List X) → filter test (x ∷ xs) ≡ filter test (x ∷ []) ++ filter test xs
+filter_split test x xs = by_test (test x)
+  where
+    by_test : (b : Bool) → cond b (x ∷ filter test xs) (filter test xs) ≡ cond b (x ∷ []) [] ++ filter test xs
+    by_test true = refl
+    by_test false = refl
+
+pub line_pushed : (entries : List Entry) (i : ℕ) (key : List ℕ) (value : Tree) (text : List ℕ) (all lines more : List (List ℕ × List ℕ)) → slice_get (keys_of entries) i ≡ Some key → slice_get (values_of entries) i ≡ Some value → text ≡ text_or [] (Some value) → more ≡ lines ++ filter is_line ((key, text) ∷ []) → all ≡ lines ++ filter is_line (map line_of (drop i entries)) → all ≡ more ++ filter is_line (map line_of (drop (i + 1) entries))
+line_pushed entries i key value text all lines more k v t m h =
+    let rest = filter is_line (map line_of (drop (i + 1) entries)) in
+    h ∙ ap (λ es. lines ++ filter is_line (map line_of es)) (drop_entry entries i key value k v)
+    ∙ ap (λ x. lines ++ filter is_line ((key, x) ∷ map line_of (drop (i + 1) entries))) (sym t)
+    ∙ ap (λ l. lines ++ l) (filter_split is_line (key, text) (map line_of (drop (i + 1) entries)))
+    ∙ sym (append_assoc lines (filter is_line ((key, text) ∷ [])) rest)
+    ∙ ap (λ l. l ++ rest) (sym m)
+
+pub lines_end : (entries : List Entry) (i : ℕ) (all lines : List (List ℕ × List ℕ)) → length entries ≤ i → all ≡ lines ++ filter is_line (map line_of (drop i entries)) → lines ≡ all
+lines_end entries i all lines past h = sym (h ∙ ap (λ es. lines ++ filter is_line (map line_of es)) (drop_all i entries past) ∙ append-nil lines)
+
+-- Definitions of a table's entries.
+pub on_def : {D : Type 0} (read : Tree → D) (entries : List Entry) (i : ℕ) (key : List ℕ) (value : Tree) (def : D) (all defs : List (List ℕ × D)) → slice_get (keys_of entries) i ≡ Some key → slice_get (values_of entries) i ≡ Some value → def ≡ read value → all ≡ defs ++ map (λ e. (e.0, read e.1)) (drop i entries) → all ≡ (defs ++ (key, def) ∷ []) ++ map (λ e. (e.0, read e.1)) (drop (i + 1) entries)
+on_def read entries i key value def all defs k v d h =
+    let rest = map (λ e. (e.0, read e.1)) (drop (i + 1) entries) in
+    h ∙ ap (λ es. defs ++ map (λ e. (e.0, read e.1)) es) (drop_entry entries i key value k v)
+    ∙ ap (λ x. defs ++ (key, x) ∷ rest) (sym d)
+    ∙ sym (append_assoc defs ((key, def) ∷ []) rest)
+
+pub on_pushed : {D : Type 0} (read : Tree → D) (entries : List Entry) (i : ℕ) (key : List ℕ) (value : Tree) (def : D) (name : List ℕ) (all defs more : List (List ℕ × D)) → slice_get (keys_of entries) i ≡ Some key → slice_get (values_of entries) i ≡ Some value → def ≡ read value → name ≡ key → more ≡ defs ++ (name, def) ∷ [] → all ≡ defs ++ map (λ e. (e.0, read e.1)) (drop i entries) → all ≡ more ++ map (λ e. (e.0, read e.1)) (drop (i + 1) entries)
+on_pushed read entries i key value def name all defs more k v d n m h =
+    on_def read entries i key value def all defs k v d h ∙ ap (λ x. x ++ map (λ e. (e.0, read e.1)) (drop (i + 1) entries)) (ap (λ x. defs ++ (x, def) ∷ []) (sym n) ∙ sym m)
+
+pub defs_end : {D : Type 0} (read : Tree → D) (entries : List Entry) (i : ℕ) (all defs : List (List ℕ × D)) → length entries ≤ i → all ≡ defs ++ map (λ e. (e.0, read e.1)) (drop i entries) → defs ≡ all
+defs_end read entries i all defs past h = sym (h ∙ ap (λ es. defs ++ map (λ e. (e.0, read e.1)) es) (drop_all i entries past) ∙ append-nil defs)
+
+-- The first entry of a table decides.
+pub by_first : {D : Type 0} (none : D) (read : List ℕ → Tree → D) (tree : Tree) (entries : List Entry) (key : List ℕ) (value : Tree) → Some entries ≡ table_of tree → slice_get (keys_of entries) 0 ≡ Some key → slice_get (values_of entries) 0 ≡ Some value → read key value ≡ first_or none read (entries_of tree)
+by_first none read tree entries key value e k v =
+    sym (ap (first_or none read) (drop_entry entries 0 key value k v)) ∙ ap (λ o. first_or none read (unwrap_or o [])) e

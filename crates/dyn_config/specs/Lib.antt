@@ -7,3 +7,5 @@ pub mod Schema
 pub mod Shapes
 pub mod Steps
 pub mod Readings
+pub mod Numbering
+pub mod Decoding

@@ -32,6 +32,11 @@ abbrev pub value_first : List Entry → Option Tree
 value_first [] = None
 value_first (entry ∷ entries) = Some entry.1
 
+-- What the first entry says.
+abbrev pub first_or : {D : Type 0} → D → (List ℕ → Tree → D) → List Entry → D
+first_or none read [] = none
+first_or none read (entry ∷ entries) = read entry.0 entry.1
+
 -- The value of an option of a table, its key compared without case.
 abbrev pub value_under : List ℕ → Tree → Option Tree
 value_under key tree = value_first (under_key key (entries_of tree))
@@ -154,6 +159,9 @@ health_of style t = record {
   unsupported = is_other (codes "http") (value_under (codes "scheme") t) || is_other (codes "http") (value_under (codes "mode") t);
 }
 
+abbrev pub health_under : Style → Tree → Option Health
+health_under style t = option_map (health_of style) (value_under (codes "healthCheck") t)
+
 abbrev pub weight_of : Style → Tree → ℕ
 weight_of style t = natural_or is_weight 1 style (value_under (codes "weight") t)
 
@@ -167,10 +175,10 @@ abbrev pub balancer_of : Style → Tree → BalancerDef
 balancer_of style t = record {
   servers = map (server_of style) (elements style (value_under (codes "servers") t));
   sticky = sticky_under style t;
-  health = option_map (health_of style) (value_under (codes "healthCheck") t);
+  health = health_under style t;
   pass_host = flag_or true style (value_under (codes "passHostHeader") t);
   unsupported = has_option (codes "serversTransport") t || is_other (codes "wrr") (value_under (codes "strategy") t) ||
-    list_any (preserves_path style) (elements style (value_under (codes "servers") t));
+      list_any (preserves_path style) (elements style (value_under (codes "servers") t));
 }
 
 abbrev pub name_of : Tree → List ℕ
@@ -195,8 +203,8 @@ mirroring_of style t = record {
   unsupported = not (flag_or true style (value_under (codes "mirrorBody") t));
 }
 
-abbrev pub failover_of : Style → Tree → FailoverDef
-failover_of style t = record {
+abbrev pub failover_of : Tree → FailoverDef
+failover_of t = record {
   service = text_or [] (value_under (codes "service") t);
   fallback = text_or [] (value_under (codes "fallback") t);
 }
@@ -207,12 +215,11 @@ service_by style kind t =
     if same_key (codes "loadBalancer") kind then service.Balancer (balancer_of style t)
     else (if same_key (codes "weighted") kind then service.Weighted (weighted_of style t)
     else (if same_key (codes "mirroring") kind then service.Mirroring (mirroring_of style t)
-    else (if same_key (codes "failover") kind then service.Failover (failover_of style t)
+    else (if same_key (codes "failover") kind then service.Failover (failover_of t)
     else service.Unsupported)))
 
 abbrev pub service_in : Style → List Entry → ServiceDef
-service_in style [] = service.Unsupported
-service_in style (entry ∷ entries) = service_by style entry.0 entry.1
+service_in style entries = first_or service.Unsupported (service_by style) entries
 
 abbrev pub service_of : Style → Tree → ServiceDef
 service_of style t = service_in style (entries_of t)
@@ -222,23 +229,53 @@ service_of style t = service_in style (entries_of t)
 abbrev pub has_others : List Row → Tree → Bool
 has_others rows t = list_any (λ entry. not (is_known rows entry.0)) (entries_of t)
 
+abbrev pub replace_path_regex_of : Tree → MiddlewareDef
+replace_path_regex_of t = middleware.ReplacePathRegex (text_or [] (value_under (codes "regex") t)) (text_or [] (value_under (codes "replacement") t))
+
+abbrev pub headers_of : Tree → MiddlewareDef
+headers_of t = middleware.Headers (lines_under (codes "customRequestHeaders") t) (lines_under (codes "customResponseHeaders") t) (has_others headers_rows t)
+
+abbrev pub ip_allow_list_of : Style → Tree → MiddlewareDef
+ip_allow_list_of style t = middleware.IpAllowList (texts_under style (codes "sourceRange") t) (has_others ip_allow_list_rows t)
+
+abbrev pub buffering_of : Style → Tree → MiddlewareDef
+buffering_of style t = middleware.Buffering (number_or (λ _. true) (pos 0) style (value_under (codes "maxRequestBodyBytes") t)) (has_others buffering_rows t)
+
+abbrev pub redirect_scheme_of : Style → Tree → MiddlewareDef
+redirect_scheme_of style t = middleware.RedirectScheme (text_or [] (value_under (codes "scheme") t)) (text_or [] (value_under (codes "port") t)) (flag_or false style (value_under (codes "permanent") t))
+
+abbrev pub redirect_regex_of : Style → Tree → MiddlewareDef
+redirect_regex_of style t = middleware.RedirectRegex (text_or [] (value_under (codes "regex") t)) (text_or [] (value_under (codes "replacement") t)) (flag_or false style (value_under (codes "permanent") t))
+
+-- A middleware by the key of its one entry, two kinds at a time.
+abbrev pub redirect_by : Style → List ℕ → Tree → MiddlewareDef
+redirect_by style kind t =
+    if same_key (codes "redirectScheme") kind then redirect_scheme_of style t
+    else (if same_key (codes "redirectRegex") kind then redirect_regex_of style t else middleware.Unsupported)
+
+abbrev pub other_by : Style → List ℕ → Tree → MiddlewareDef
+other_by style kind t =
+    if same_key (codes "chain") kind then middleware.Chain (texts_under style (codes "middlewares") t)
+    else (if same_key (codes "buffering") kind then buffering_of style t else redirect_by style kind t)
+
+abbrev pub lines_by : Style → List ℕ → Tree → MiddlewareDef
+lines_by style kind t =
+    if same_key (codes "headers") kind then headers_of t
+    else (if same_key (codes "ipAllowList") kind then ip_allow_list_of style t else other_by style kind t)
+
+abbrev pub rewrite_by : Style → List ℕ → Tree → MiddlewareDef
+rewrite_by style kind t =
+    if same_key (codes "replacePath") kind then middleware.ReplacePath (text_or [] (value_under (codes "path") t))
+    else (if same_key (codes "replacePathRegex") kind then replace_path_regex_of t else lines_by style kind t)
+
 abbrev pub middleware_by : Style → List ℕ → Tree → MiddlewareDef
 middleware_by style kind t =
     if same_key (codes "addPrefix") kind then middleware.AddPrefix (text_or [] (value_under (codes "prefix") t))
     else (if same_key (codes "stripPrefix") kind then middleware.StripPrefix (texts_under style (codes "prefixes") t) (has_option (codes "forceSlash") t)
-    else (if same_key (codes "replacePath") kind then middleware.ReplacePath (text_or [] (value_under (codes "path") t))
-    else (if same_key (codes "replacePathRegex") kind then middleware.ReplacePathRegex (text_or [] (value_under (codes "regex") t)) (text_or [] (value_under (codes "replacement") t))
-    else (if same_key (codes "headers") kind then middleware.Headers (lines_under (codes "customRequestHeaders") t) (lines_under (codes "customResponseHeaders") t) (has_others headers_rows t)
-    else (if same_key (codes "ipAllowList") kind then middleware.IpAllowList (texts_under style (codes "sourceRange") t) (has_others ip_allow_list_rows t)
-    else (if same_key (codes "chain") kind then middleware.Chain (texts_under style (codes "middlewares") t)
-    else (if same_key (codes "buffering") kind then middleware.Buffering (number_or (λ _. true) (pos 0) style (value_under (codes "maxRequestBodyBytes") t)) (has_others buffering_rows t)
-    else (if same_key (codes "redirectScheme") kind then middleware.RedirectScheme (text_or [] (value_under (codes "scheme") t)) (text_or [] (value_under (codes "port") t)) (flag_or false style (value_under (codes "permanent") t))
-    else (if same_key (codes "redirectRegex") kind then middleware.RedirectRegex (text_or [] (value_under (codes "regex") t)) (text_or [] (value_under (codes "replacement") t)) (flag_or false style (value_under (codes "permanent") t))
-    else middleware.Unsupported)))))))))
+    else rewrite_by style kind t)
 
 abbrev pub middleware_in : Style → List Entry → MiddlewareDef
-middleware_in style [] = middleware.Unsupported
-middleware_in style (entry ∷ entries) = middleware_by style entry.0 entry.1
+middleware_in style entries = first_or middleware.Unsupported (middleware_by style) entries
 
 abbrev pub middleware_of : Style → Tree → MiddlewareDef
 middleware_of style t = middleware_in style (entries_of t)

@@ -9,8 +9,8 @@ pub record NextUnder (key : List ℕ) (entries : List Entry) (from at : ℕ) : T
   pub within : at < length entries
   pub room : at + 1 < 2 ^ 64
   pub found : (name : List ℕ) (value : Tree) → slice_get (keys_of entries) at ≡ Some name →
-    slice_get (values_of entries) at ≡ Some value →
-    under_key key (drop from entries) ≡ (name, value) ∷ under_key key (drop (at + 1) entries)
+      slice_get (values_of entries) at ≡ Some value →
+      under_key key (drop from entries) ≡ (name, value) ∷ under_key key (drop (at + 1) entries)
 
 abbrev pub is_zero_first : List ℕ → Bool
 is_zero_first [] = false

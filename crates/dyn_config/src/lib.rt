@@ -2,24 +2,31 @@
 #![tactic(auto)]
 
 mod config;
+mod decoding;
 mod fault;
 mod found;
+mod kinds;
 mod leaves;
+mod lists;
 mod merged;
 mod middleware;
 mod numbers;
 mod options;
 mod ranges;
+mod readers;
 mod references;
 mod router;
 mod rows;
 mod schema;
 mod service;
 mod tables;
+#[cfg(test)]
+mod tests;
 mod twins;
 mod walk;
 
 pub use config::Config;
+pub use decoding::decode;
 pub use fault::ConfigFault;
 pub use field_tree::Style;
 pub use merged::{Entry, Merged};

@@ -35,12 +35,7 @@ pub(crate) fn has_option(key: &[u8], tree: &Tree) -> bool
 }
 
 /// The text of an option where it is there and in the range, else the default.
-pub(crate) fn text_in_range<'a>(
-    range: TextRange,
-    default: &'a [u8],
-    key: &[u8],
-    tree: &'a Tree,
-) -> &'a [u8]
+fn text_in_range<'a>(range: TextRange, default: &'a [u8], key: &[u8], tree: &'a Tree) -> &'a [u8]
     ensures { result.now ≡ text_in_or (is_text_of range) default.now (value_under key.now tree.now) }
 {
     match value_under(key, tree) {
@@ -58,11 +53,25 @@ pub(crate) fn text_in_range<'a>(
     }
 }
 
+/// A copy of the text of an option where it is there and in the range, else of the default.
+pub(crate) fn ranged_text(
+    alloc: Global,
+    range: TextRange,
+    default: &[u8],
+    key: &[u8],
+    tree: &Tree,
+) -> Result<Bytes, Memory>
+    ensures { IfOk result (λ text. text ≡ text_in_or (is_text_of range) default.now (value_under key.now tree.now)) }
+{
+    let text = text_in_range(range, default, key, tree);
+    Bytes::from_slice(alloc, text)
+}
+
 /// A copy of the text of an option, empty where it is absent.
 pub(crate) fn text_under(alloc: Global, key: &[u8], tree: &Tree) -> Result<Bytes, Memory>
     ensures { IfOk result (λ text. text ≡ text_or [] (value_under key.now tree.now)) }
 {
-    let text = text_in_range(TextRange::Whatever, b"".as_slice(), key, tree);
+    let text = text_in_range(TextRange::Whatever, b"", key, tree);
     Bytes::from_slice(alloc, text)
 }
 

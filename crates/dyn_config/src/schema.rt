@@ -103,172 +103,538 @@ pub(crate) struct Row {
 }
 
 static ROUTER: [Row; 8] = [
-    Row { key: b"entryPoints", required: false, shape: Shape::Texts },
-    Row { key: b"rule", required: false, shape: Shape::Text(TextRange::Whatever) },
-    Row { key: b"service", required: false, shape: Shape::Text(TextRange::Whatever) },
-    Row { key: b"middlewares", required: false, shape: Shape::Texts },
-    Row { key: b"priority", required: false, shape: Shape::Number(NumberRange::All) },
-    Row { key: b"tls", required: false, shape: Shape::AnyTable },
-    Row { key: b"ruleSyntax", required: false, shape: Shape::Text(TextRange::Whatever) },
-    Row { key: b"observability", required: false, shape: Shape::Anything },
+    Row {
+        key: b"entryPoints",
+        required: false,
+        shape: Shape::Texts,
+    },
+    Row {
+        key: b"rule",
+        required: false,
+        shape: Shape::Text(TextRange::Whatever),
+    },
+    Row {
+        key: b"service",
+        required: false,
+        shape: Shape::Text(TextRange::Whatever),
+    },
+    Row {
+        key: b"middlewares",
+        required: false,
+        shape: Shape::Texts,
+    },
+    Row {
+        key: b"priority",
+        required: false,
+        shape: Shape::Number(NumberRange::All),
+    },
+    Row {
+        key: b"tls",
+        required: false,
+        shape: Shape::AnyTable,
+    },
+    Row {
+        key: b"ruleSyntax",
+        required: false,
+        shape: Shape::Text(TextRange::Whatever),
+    },
+    Row {
+        key: b"observability",
+        required: false,
+        shape: Shape::Anything,
+    },
 ];
 
 static COOKIE: [Row; 7] = [
-    Row { key: b"name", required: false, shape: Shape::Text(TextRange::CookieName) },
-    Row { key: b"secure", required: false, shape: Shape::Flag },
-    Row { key: b"httpOnly", required: false, shape: Shape::Flag },
-    Row { key: b"sameSite", required: false, shape: Shape::Text(TextRange::SameSite) },
-    Row { key: b"maxAge", required: false, shape: Shape::Number(NumberRange::All) },
-    Row { key: b"path", required: false, shape: Shape::Text(TextRange::CookieText) },
-    Row { key: b"domain", required: false, shape: Shape::Text(TextRange::CookieText) },
+    Row {
+        key: b"name",
+        required: false,
+        shape: Shape::Text(TextRange::CookieName),
+    },
+    Row {
+        key: b"secure",
+        required: false,
+        shape: Shape::Flag,
+    },
+    Row {
+        key: b"httpOnly",
+        required: false,
+        shape: Shape::Flag,
+    },
+    Row {
+        key: b"sameSite",
+        required: false,
+        shape: Shape::Text(TextRange::SameSite),
+    },
+    Row {
+        key: b"maxAge",
+        required: false,
+        shape: Shape::Number(NumberRange::All),
+    },
+    Row {
+        key: b"path",
+        required: false,
+        shape: Shape::Text(TextRange::CookieText),
+    },
+    Row {
+        key: b"domain",
+        required: false,
+        shape: Shape::Text(TextRange::CookieText),
+    },
 ];
 
-static STICKY: [Row; 1] = [
-    Row { key: b"cookie", required: false, shape: Shape::Options(Table::Cookie) },
-];
+static STICKY: [Row; 1] = [Row {
+    key: b"cookie",
+    required: false,
+    shape: Shape::Options(Table::Cookie),
+}];
 
 static HEALTH: [Row; 12] = [
-    Row { key: b"path", required: true, shape: Shape::Text(TextRange::ProbePath) },
-    Row { key: b"hostname", required: false, shape: Shape::Text(TextRange::Whatever) },
-    Row { key: b"port", required: false, shape: Shape::Number(NumberRange::Short) },
-    Row { key: b"method", required: false, shape: Shape::Text(TextRange::Whatever) },
-    Row { key: b"headers", required: false, shape: Shape::Lines },
-    Row { key: b"status", required: false, shape: Shape::Number(NumberRange::Short) },
-    Row { key: b"interval", required: false, shape: Shape::Time },
-    Row { key: b"timeout", required: false, shape: Shape::Time },
-    Row { key: b"scheme", required: false, shape: Shape::Text(TextRange::Whatever) },
-    Row { key: b"mode", required: false, shape: Shape::Text(TextRange::Whatever) },
-    Row { key: b"followRedirects", required: false, shape: Shape::Anything },
-    Row { key: b"unhealthyInterval", required: false, shape: Shape::Anything },
+    Row {
+        key: b"path",
+        required: true,
+        shape: Shape::Text(TextRange::ProbePath),
+    },
+    Row {
+        key: b"hostname",
+        required: false,
+        shape: Shape::Text(TextRange::Whatever),
+    },
+    Row {
+        key: b"port",
+        required: false,
+        shape: Shape::Number(NumberRange::Short),
+    },
+    Row {
+        key: b"method",
+        required: false,
+        shape: Shape::Text(TextRange::Whatever),
+    },
+    Row {
+        key: b"headers",
+        required: false,
+        shape: Shape::Lines,
+    },
+    Row {
+        key: b"status",
+        required: false,
+        shape: Shape::Number(NumberRange::Short),
+    },
+    Row {
+        key: b"interval",
+        required: false,
+        shape: Shape::Time,
+    },
+    Row {
+        key: b"timeout",
+        required: false,
+        shape: Shape::Time,
+    },
+    Row {
+        key: b"scheme",
+        required: false,
+        shape: Shape::Text(TextRange::Whatever),
+    },
+    Row {
+        key: b"mode",
+        required: false,
+        shape: Shape::Text(TextRange::Whatever),
+    },
+    Row {
+        key: b"followRedirects",
+        required: false,
+        shape: Shape::Anything,
+    },
+    Row {
+        key: b"unhealthyInterval",
+        required: false,
+        shape: Shape::Anything,
+    },
 ];
 
 static SERVER: [Row; 3] = [
-    Row { key: b"url", required: true, shape: Shape::Text(TextRange::Whatever) },
-    Row { key: b"weight", required: false, shape: Shape::Number(NumberRange::Weight) },
-    Row { key: b"preservePath", required: false, shape: Shape::Flag },
+    Row {
+        key: b"url",
+        required: true,
+        shape: Shape::Text(TextRange::Whatever),
+    },
+    Row {
+        key: b"weight",
+        required: false,
+        shape: Shape::Number(NumberRange::Weight),
+    },
+    Row {
+        key: b"preservePath",
+        required: false,
+        shape: Shape::Flag,
+    },
 ];
 
 static BALANCER: [Row; 7] = [
-    Row { key: b"servers", required: false, shape: Shape::Tables(Table::Server) },
-    Row { key: b"sticky", required: false, shape: Shape::Options(Table::Sticky) },
-    Row { key: b"healthCheck", required: false, shape: Shape::Options(Table::Health) },
-    Row { key: b"passHostHeader", required: false, shape: Shape::Flag },
-    Row { key: b"responseForwarding", required: false, shape: Shape::Anything },
-    Row { key: b"serversTransport", required: false, shape: Shape::Anything },
-    Row { key: b"strategy", required: false, shape: Shape::Text(TextRange::Whatever) },
+    Row {
+        key: b"servers",
+        required: false,
+        shape: Shape::Tables(Table::Server),
+    },
+    Row {
+        key: b"sticky",
+        required: false,
+        shape: Shape::Options(Table::Sticky),
+    },
+    Row {
+        key: b"healthCheck",
+        required: false,
+        shape: Shape::Options(Table::Health),
+    },
+    Row {
+        key: b"passHostHeader",
+        required: false,
+        shape: Shape::Flag,
+    },
+    Row {
+        key: b"responseForwarding",
+        required: false,
+        shape: Shape::Anything,
+    },
+    Row {
+        key: b"serversTransport",
+        required: false,
+        shape: Shape::Anything,
+    },
+    Row {
+        key: b"strategy",
+        required: false,
+        shape: Shape::Text(TextRange::Whatever),
+    },
 ];
 
 static CHILD: [Row; 2] = [
-    Row { key: b"name", required: true, shape: Shape::Text(TextRange::Whatever) },
-    Row { key: b"weight", required: false, shape: Shape::Number(NumberRange::Weight) },
+    Row {
+        key: b"name",
+        required: true,
+        shape: Shape::Text(TextRange::Whatever),
+    },
+    Row {
+        key: b"weight",
+        required: false,
+        shape: Shape::Number(NumberRange::Weight),
+    },
 ];
 
 static WEIGHTED: [Row; 3] = [
-    Row { key: b"services", required: false, shape: Shape::Tables(Table::Child) },
-    Row { key: b"sticky", required: false, shape: Shape::Options(Table::Sticky) },
-    Row { key: b"healthCheck", required: false, shape: Shape::Anything },
+    Row {
+        key: b"services",
+        required: false,
+        shape: Shape::Tables(Table::Child),
+    },
+    Row {
+        key: b"sticky",
+        required: false,
+        shape: Shape::Options(Table::Sticky),
+    },
+    Row {
+        key: b"healthCheck",
+        required: false,
+        shape: Shape::Anything,
+    },
 ];
 
 static MIRROR: [Row; 2] = [
-    Row { key: b"name", required: true, shape: Shape::Text(TextRange::Whatever) },
-    Row { key: b"percent", required: false, shape: Shape::Number(NumberRange::Percent) },
+    Row {
+        key: b"name",
+        required: true,
+        shape: Shape::Text(TextRange::Whatever),
+    },
+    Row {
+        key: b"percent",
+        required: false,
+        shape: Shape::Number(NumberRange::Percent),
+    },
 ];
 
 static MIRRORING: [Row; 5] = [
-    Row { key: b"service", required: true, shape: Shape::Text(TextRange::Whatever) },
-    Row { key: b"mirrors", required: false, shape: Shape::Tables(Table::Mirror) },
-    Row { key: b"maxBodySize", required: false, shape: Shape::Number(NumberRange::Size) },
-    Row { key: b"mirrorBody", required: false, shape: Shape::Flag },
-    Row { key: b"healthCheck", required: false, shape: Shape::Anything },
+    Row {
+        key: b"service",
+        required: true,
+        shape: Shape::Text(TextRange::Whatever),
+    },
+    Row {
+        key: b"mirrors",
+        required: false,
+        shape: Shape::Tables(Table::Mirror),
+    },
+    Row {
+        key: b"maxBodySize",
+        required: false,
+        shape: Shape::Number(NumberRange::Size),
+    },
+    Row {
+        key: b"mirrorBody",
+        required: false,
+        shape: Shape::Flag,
+    },
+    Row {
+        key: b"healthCheck",
+        required: false,
+        shape: Shape::Anything,
+    },
 ];
 
 static FAILOVER: [Row; 3] = [
-    Row { key: b"service", required: true, shape: Shape::Text(TextRange::Whatever) },
-    Row { key: b"fallback", required: true, shape: Shape::Text(TextRange::Whatever) },
-    Row { key: b"healthCheck", required: false, shape: Shape::Anything },
+    Row {
+        key: b"service",
+        required: true,
+        shape: Shape::Text(TextRange::Whatever),
+    },
+    Row {
+        key: b"fallback",
+        required: true,
+        shape: Shape::Text(TextRange::Whatever),
+    },
+    Row {
+        key: b"healthCheck",
+        required: false,
+        shape: Shape::Anything,
+    },
 ];
 
-static ADD_PREFIX: [Row; 1] = [
-    Row { key: b"prefix", required: false, shape: Shape::Text(TextRange::Whatever) },
-];
+static ADD_PREFIX: [Row; 1] = [Row {
+    key: b"prefix",
+    required: false,
+    shape: Shape::Text(TextRange::Whatever),
+}];
 
 static STRIP_PREFIX: [Row; 2] = [
-    Row { key: b"prefixes", required: false, shape: Shape::Texts },
-    Row { key: b"forceSlash", required: false, shape: Shape::Anything },
+    Row {
+        key: b"prefixes",
+        required: false,
+        shape: Shape::Texts,
+    },
+    Row {
+        key: b"forceSlash",
+        required: false,
+        shape: Shape::Anything,
+    },
 ];
 
-static REPLACE_PATH: [Row; 1] = [
-    Row { key: b"path", required: false, shape: Shape::Text(TextRange::Whatever) },
-];
+static REPLACE_PATH: [Row; 1] = [Row {
+    key: b"path",
+    required: false,
+    shape: Shape::Text(TextRange::Whatever),
+}];
 
 static REPLACE_PATH_REGEX: [Row; 2] = [
-    Row { key: b"regex", required: false, shape: Shape::Text(TextRange::Whatever) },
-    Row { key: b"replacement", required: false, shape: Shape::Text(TextRange::Whatever) },
+    Row {
+        key: b"regex",
+        required: false,
+        shape: Shape::Text(TextRange::Whatever),
+    },
+    Row {
+        key: b"replacement",
+        required: false,
+        shape: Shape::Text(TextRange::Whatever),
+    },
 ];
 
 static HEADERS: [Row; 2] = [
-    Row { key: b"customRequestHeaders", required: false, shape: Shape::Lines },
-    Row { key: b"customResponseHeaders", required: false, shape: Shape::Lines },
+    Row {
+        key: b"customRequestHeaders",
+        required: false,
+        shape: Shape::Lines,
+    },
+    Row {
+        key: b"customResponseHeaders",
+        required: false,
+        shape: Shape::Lines,
+    },
 ];
 
-static IP_ALLOW_LIST: [Row; 1] = [
-    Row { key: b"sourceRange", required: false, shape: Shape::Texts },
-];
+static IP_ALLOW_LIST: [Row; 1] = [Row {
+    key: b"sourceRange",
+    required: false,
+    shape: Shape::Texts,
+}];
 
 static BUFFERING: [Row; 3] = [
-    Row { key: b"maxRequestBodyBytes", required: false, shape: Shape::Number(NumberRange::All) },
-    Row { key: b"memRequestBodyBytes", required: false, shape: Shape::Anything },
-    Row { key: b"memResponseBodyBytes", required: false, shape: Shape::Anything },
+    Row {
+        key: b"maxRequestBodyBytes",
+        required: false,
+        shape: Shape::Number(NumberRange::All),
+    },
+    Row {
+        key: b"memRequestBodyBytes",
+        required: false,
+        shape: Shape::Anything,
+    },
+    Row {
+        key: b"memResponseBodyBytes",
+        required: false,
+        shape: Shape::Anything,
+    },
 ];
 
-static CHAIN: [Row; 1] = [
-    Row { key: b"middlewares", required: false, shape: Shape::Texts },
-];
+static CHAIN: [Row; 1] = [Row {
+    key: b"middlewares",
+    required: false,
+    shape: Shape::Texts,
+}];
 
 static REDIRECT_SCHEME: [Row; 3] = [
-    Row { key: b"scheme", required: false, shape: Shape::Text(TextRange::Whatever) },
-    Row { key: b"port", required: false, shape: Shape::Text(TextRange::Whatever) },
-    Row { key: b"permanent", required: false, shape: Shape::Flag },
+    Row {
+        key: b"scheme",
+        required: false,
+        shape: Shape::Text(TextRange::Whatever),
+    },
+    Row {
+        key: b"port",
+        required: false,
+        shape: Shape::Text(TextRange::Whatever),
+    },
+    Row {
+        key: b"permanent",
+        required: false,
+        shape: Shape::Flag,
+    },
 ];
 
 static REDIRECT_REGEX: [Row; 3] = [
-    Row { key: b"regex", required: false, shape: Shape::Text(TextRange::Whatever) },
-    Row { key: b"replacement", required: false, shape: Shape::Text(TextRange::Whatever) },
-    Row { key: b"permanent", required: false, shape: Shape::Flag },
+    Row {
+        key: b"regex",
+        required: false,
+        shape: Shape::Text(TextRange::Whatever),
+    },
+    Row {
+        key: b"replacement",
+        required: false,
+        shape: Shape::Text(TextRange::Whatever),
+    },
+    Row {
+        key: b"permanent",
+        required: false,
+        shape: Shape::Flag,
+    },
 ];
 
 static HTTP: [Row; 4] = [
-    Row { key: b"routers", required: false, shape: Shape::Names(Declared::Routers) },
-    Row { key: b"services", required: false, shape: Shape::Names(Declared::Services) },
-    Row { key: b"middlewares", required: false, shape: Shape::Names(Declared::Middlewares) },
-    Row { key: b"serversTransports", required: false, shape: Shape::Anything },
+    Row {
+        key: b"routers",
+        required: false,
+        shape: Shape::Names(Declared::Routers),
+    },
+    Row {
+        key: b"services",
+        required: false,
+        shape: Shape::Names(Declared::Services),
+    },
+    Row {
+        key: b"middlewares",
+        required: false,
+        shape: Shape::Names(Declared::Middlewares),
+    },
+    Row {
+        key: b"serversTransports",
+        required: false,
+        shape: Shape::Anything,
+    },
 ];
 
 static TOP: [Row; 4] = [
-    Row { key: b"http", required: false, shape: Shape::Options(Table::Http) },
-    Row { key: b"tcp", required: false, shape: Shape::Anything },
-    Row { key: b"udp", required: false, shape: Shape::Anything },
-    Row { key: b"tls", required: false, shape: Shape::Anything },
+    Row {
+        key: b"http",
+        required: false,
+        shape: Shape::Options(Table::Http),
+    },
+    Row {
+        key: b"tcp",
+        required: false,
+        shape: Shape::Anything,
+    },
+    Row {
+        key: b"udp",
+        required: false,
+        shape: Shape::Anything,
+    },
+    Row {
+        key: b"tls",
+        required: false,
+        shape: Shape::Anything,
+    },
 ];
 
 static SERVICE_KINDS: [Row; 4] = [
-    Row { key: b"loadBalancer", required: false, shape: Shape::Options(Table::Balancer) },
-    Row { key: b"weighted", required: false, shape: Shape::Options(Table::Weighted) },
-    Row { key: b"mirroring", required: false, shape: Shape::Options(Table::Mirroring) },
-    Row { key: b"failover", required: false, shape: Shape::Options(Table::Failover) },
+    Row {
+        key: b"loadBalancer",
+        required: false,
+        shape: Shape::Options(Table::Balancer),
+    },
+    Row {
+        key: b"weighted",
+        required: false,
+        shape: Shape::Options(Table::Weighted),
+    },
+    Row {
+        key: b"mirroring",
+        required: false,
+        shape: Shape::Options(Table::Mirroring),
+    },
+    Row {
+        key: b"failover",
+        required: false,
+        shape: Shape::Options(Table::Failover),
+    },
 ];
 
 static MIDDLEWARE_KINDS: [Row; 10] = [
-    Row { key: b"addPrefix", required: false, shape: Shape::Options(Table::AddPrefix) },
-    Row { key: b"stripPrefix", required: false, shape: Shape::Options(Table::StripPrefix) },
-    Row { key: b"replacePath", required: false, shape: Shape::Options(Table::ReplacePath) },
-    Row { key: b"replacePathRegex", required: false, shape: Shape::Options(Table::ReplacePathRegex) },
-    Row { key: b"headers", required: false, shape: Shape::Open(Table::Headers) },
-    Row { key: b"ipAllowList", required: false, shape: Shape::Open(Table::IpAllowList) },
-    Row { key: b"chain", required: false, shape: Shape::Options(Table::Chain) },
-    Row { key: b"buffering", required: false, shape: Shape::Open(Table::Buffering) },
-    Row { key: b"redirectScheme", required: false, shape: Shape::Options(Table::RedirectScheme) },
-    Row { key: b"redirectRegex", required: false, shape: Shape::Options(Table::RedirectRegex) },
+    Row {
+        key: b"addPrefix",
+        required: false,
+        shape: Shape::Options(Table::AddPrefix),
+    },
+    Row {
+        key: b"stripPrefix",
+        required: false,
+        shape: Shape::Options(Table::StripPrefix),
+    },
+    Row {
+        key: b"replacePath",
+        required: false,
+        shape: Shape::Options(Table::ReplacePath),
+    },
+    Row {
+        key: b"replacePathRegex",
+        required: false,
+        shape: Shape::Options(Table::ReplacePathRegex),
+    },
+    Row {
+        key: b"headers",
+        required: false,
+        shape: Shape::Open(Table::Headers),
+    },
+    Row {
+        key: b"ipAllowList",
+        required: false,
+        shape: Shape::Open(Table::IpAllowList),
+    },
+    Row {
+        key: b"chain",
+        required: false,
+        shape: Shape::Options(Table::Chain),
+    },
+    Row {
+        key: b"buffering",
+        required: false,
+        shape: Shape::Open(Table::Buffering),
+    },
+    Row {
+        key: b"redirectScheme",
+        required: false,
+        shape: Shape::Options(Table::RedirectScheme),
+    },
+    Row {
+        key: b"redirectRegex",
+        required: false,
+        shape: Shape::Options(Table::RedirectRegex),
+    },
 ];
 
 /// The options of a table.

@@ -40,7 +40,13 @@ pub(crate) fn note_unknown(
 {
     for at in 0..fields.len() {
         let key = fields.key(at);
-        first = note(alloc, Order::Walk, first, key, unknown_fault(alloc, table, key))?;
+        first = note(
+            alloc,
+            Order::Walk,
+            first,
+            key,
+            unknown_fault(alloc, table, key),
+        )?;
     }
     Ok(first)
 }
@@ -66,7 +72,13 @@ pub(crate) fn note_twins(
 {
     for at in 0..fields.len() {
         let key = fields.key(at);
-        first = note(alloc, Order::Walk, first, key, other_fault(alloc, table, fields, key))?;
+        first = note(
+            alloc,
+            Order::Walk,
+            first,
+            key,
+            other_fault(alloc, table, fields, key),
+        )?;
     }
     Ok(first)
 }
@@ -94,12 +106,7 @@ pub(crate) fn check_lines(alloc: Global, fields: &Fields<Tree>) -> Result<Option
     under_key(alloc, first)
 }
 
-fn name_fault(
-    alloc: Global,
-    fields: &Fields<Tree>,
-    name: &[u8],
-    value: &Tree,
-) -> Option<Fault>
+fn name_fault(alloc: Global, fields: &Fields<Tree>, name: &[u8], value: &Tree) -> Option<Fault>
     ensures { result ≡ line_stop_fault fields.now (name.now, value.now) }
 {
     if has_twin(Sameness::Fold, fields, name) {

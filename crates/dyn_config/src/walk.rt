@@ -153,7 +153,15 @@ fn check_rows(
     let mut first = None;
     for at in 0..rows.len() {
         let row = rows[at];
-        first = check_row(alloc, style, first, row.key, row.required, row.shape, fields)?;
+        first = check_row(
+            alloc,
+            style,
+            first,
+            row.key,
+            row.required,
+            row.shape,
+            fields,
+        )?;
     }
     Ok(first)
 }
@@ -280,11 +288,7 @@ fn check_list(
 }
 
 #[cycle(check)]
-fn check_values(
-    alloc: Global,
-    element: Shape,
-    values: &[Tree],
-) -> Result<Option<Fault>, Memory>
+fn check_values(alloc: Global, element: Shape, values: &[Tree]) -> Result<Option<Fault>, Memory>
     ensures { IfOk result (λ fault. fault ≡ first_place (meaning element) Typed 0 values.now) }
 {
     for (place, value) in values.iter().enumerate() {

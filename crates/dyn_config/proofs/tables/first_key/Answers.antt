@@ -18,6 +18,6 @@ loop-at-preserved c =
     let test : is_less (walk_cmp c.key.result.now l.1.0) ≡ c.is_before.result = ap (λ k. is_less (walk_cmp c.key.result.now k)) known ∙ sym c.is_before.ensures in
     let within : c.loop-at.at < length c.args.fields.now = omega (arith, c.loop-at-test.true, c.len-at-end.ensures.len) in
     elim c.if-is_before.branch [
-      then-is_before w ↦ rw w.least-is (within, (c.key.result.now, c.key.ensures, least_then c.args.fields.now c.loop-at.at c.key.result.now l.1.0 _ c.key.ensures (test ∙ w.if-is_before.true) l.1.2))
-    | else-is_before w ↦ rw w.least-is (l.0, (l.1.0, l.1.1, least_else c.args.fields.now c.loop-at.at c.key.result.now l.1.0 _ c.key.ensures (test ∙ w.if-is_before.false) l.1.2))
+      | then-is_before w ↦ rw w.least-is (within, (c.key.result.now, c.key.ensures, least_then c.args.fields.now c.loop-at.at c.key.result.now l.1.0 _ c.key.ensures (test ∙ w.if-is_before.true) l.1.2))
+      | else-is_before w ↦ rw w.least-is (l.0, (l.1.0, l.1.1, least_else c.args.fields.now c.loop-at.at c.key.result.now l.1.0 _ c.key.ensures (test ∙ w.if-is_before.false) l.1.2))
     ]

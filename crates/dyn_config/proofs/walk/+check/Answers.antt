@@ -17,13 +17,13 @@ check_names-loop-at-preserved t c =
     let asked = declared_check c.args.declared c.args.style in
     on_any (sooner walk_cmp) (name_stop (declared_check c.args.declared) c.args.style) c.args.fields.now c.loop-at.at key _ c.loop-at.first c.in_ok-first.first c.if-is_name.fault c.key-key.ensures c.loop-at.invariant c.in_ok-first.ensures
     (λ value at. elim c.if-is_name.branch [
-      check_names-then-is_name+in_ok-fault w ↦
-        ap (λ b. (key, if b then asked value else here BadName)) (sym c.is_name.ensures ∙ w.if-is_name.true)
-        ∙ ap (λ v. (key, asked v)) (same_there (values_of c.args.fields.now) c.loop-at.at value w.value.result.now at w.value.ensures)
-        ∙ ap (λ f. (key, f)) (sym (w.fault-is ∙ w.in_ok-fault.ensures ∙ ap (λ check. check c.args.style w.value.result.now) w.declared_shape.ensures.shape))
-    | check_names-else-is_name w ↦
-        ap (λ b. (key, if b then asked value else here BadName)) (sym c.is_name.ensures ∙ w.if-is_name.false)
-        ∙ ap (λ f. (key, f)) (sym (w.fault-is ∙ w.here-fault.ensures))
+      | check_names-then-is_name+in_ok-fault w ↦
+          ap (λ b. (key, if b then asked value else here BadName)) (sym c.is_name.ensures ∙ w.if-is_name.true)
+          ∙ ap (λ v. (key, asked v)) (same_there (values_of c.args.fields.now) c.loop-at.at value w.value.result.now at w.value.ensures)
+          ∙ ap (λ f. (key, f)) (sym (w.fault-is ∙ w.in_ok-fault.ensures ∙ ap (λ check. check c.args.style w.value.result.now) w.declared_shape.ensures.shape))
+      | check_names-else-is_name w ↦
+          ap (λ b. (key, if b then asked value else here BadName)) (sym c.is_name.ensures ∙ w.if-is_name.false)
+          ∙ ap (λ f. (key, f)) (sym (w.fault-is ∙ w.here-fault.ensures))
     ])
 
 pub check_kinds-loop-at-preserved : goal.check_kinds-loop-at-preserved
@@ -33,13 +33,13 @@ check_kinds-loop-at-preserved t c =
     let test = ap (λ k. bytes_eq key k) (sym c.first_key-least.ensures) ∙ sym c.is_same.ensures in
     on_any (sooner walk_cmp) (kind_stop (kinds_of c.args.family) c.args.style (least_key c.args.fields.now)) c.args.fields.now c.loop-at.at key _ c.loop-at.first c.in_ok-first.first c.if-is_same.fault c.key-key.ensures c.loop-at.invariant c.in_ok-first.ensures
     (λ value at. elim c.if-is_same.branch [
-      check_kinds-then-is_same+in_ok-fault w ↦
-        ap (λ b. (key, if b then asked value else here Twice)) (test ∙ w.if-is_same.true)
-        ∙ ap (λ v. (key, asked v)) (same_there (values_of c.args.fields.now) c.loop-at.at value w.value.result.now at w.value.ensures)
-        ∙ ap (λ f. (key, f)) (sym (w.fault-is ∙ w.in_ok-fault.ensures ∙ sym (w.kind_shape.ensures.shape c.args.style w.value.result.now)))
-    | check_kinds-else-is_same w ↦
-        ap (λ b. (key, if b then asked value else here Twice)) (test ∙ w.if-is_same.false)
-        ∙ ap (λ f. (key, f)) (sym (w.fault-is ∙ w.here-fault.ensures))
+      | check_kinds-then-is_same+in_ok-fault w ↦
+          ap (λ b. (key, if b then asked value else here Twice)) (test ∙ w.if-is_same.true)
+          ∙ ap (λ v. (key, asked v)) (same_there (values_of c.args.fields.now) c.loop-at.at value w.value.result.now at w.value.ensures)
+          ∙ ap (λ f. (key, f)) (sym (w.fault-is ∙ w.in_ok-fault.ensures ∙ sym (w.kind_shape.ensures.shape c.args.style w.value.result.now)))
+      | check_kinds-else-is_same w ↦
+          ap (λ b. (key, if b then asked value else here Twice)) (test ∙ w.if-is_same.false)
+          ∙ ap (λ f. (key, f)) (sym (w.fault-is ∙ w.here-fault.ensures))
     ])
 
 pub check_numbered-loop-at-preserved : goal.check_numbered-loop-at-preserved
@@ -48,13 +48,13 @@ check_numbered-loop-at-preserved t c =
     let asked = meaning c.args.element Texts in
     on_any (sooner number_cmp) (number_stop (meaning c.args.element) c.args.fields.now) c.args.fields.now c.loop-at.at key _ c.loop-at.first c.in_ok-first.first c.if-has_twin.fault c.key-key.ensures c.loop-at.invariant c.in_ok-first.ensures
     (λ value at. elim c.if-has_twin.branch [
-      check_numbered-then-has_twin w ↦
-        ap (λ b. (key, if b then here Twice else asked value)) (sym c.has_twin.ensures ∙ w.if-has_twin.true)
-        ∙ ap (λ f. (key, f)) (sym (w.fault-is ∙ w.here-fault.ensures))
-    | check_numbered-else-has_twin+in_ok-fault w ↦
-        ap (λ b. (key, if b then here Twice else asked value)) (sym c.has_twin.ensures ∙ w.if-has_twin.false)
-        ∙ ap (λ v. (key, asked v)) (same_there (values_of c.args.fields.now) c.loop-at.at value w.value.result.now at w.value.ensures)
-        ∙ ap (λ f. (key, f)) (sym (w.fault-is ∙ w.in_ok-fault.ensures))
+      | check_numbered-then-has_twin w ↦
+          ap (λ b. (key, if b then here Twice else asked value)) (sym c.has_twin.ensures ∙ w.if-has_twin.true)
+          ∙ ap (λ f. (key, f)) (sym (w.fault-is ∙ w.here-fault.ensures))
+      | check_numbered-else-has_twin+in_ok-fault w ↦
+          ap (λ b. (key, if b then here Twice else asked value)) (sym c.has_twin.ensures ∙ w.if-has_twin.false)
+          ∙ ap (λ v. (key, asked v)) (same_there (values_of c.args.fields.now) c.loop-at.at value w.value.result.now at w.value.ensures)
+          ∙ ap (λ f. (key, f)) (sym (w.fault-is ∙ w.in_ok-fault.ensures))
     ])
 
 pub check_row-returns-in_ok-both-in-Some-next_under : goal.check_row-returns-in_ok-both-in-Some-next_under
