@@ -1,5 +1,5 @@
 -- What is known of a tree without a fault.
-use Rattle.std.proofs.Common.{◌≡◌, ℕ, ◌<◌, ◌≤◌, Bool, true, false, cond, if◌then◌else◌, IsTrue, nat_le, List, [], ◌∷◌, ◌++◌, map, length, Option, Some, None, refl, sym, ap, ◌∙◌, arith}
+use Rattle.std.proofs.Common.{◌≡◌, ℕ, ◌≤◌, Bool, true, false, if◌then◌else◌, nat_le, List, [], ◌∷◌, ◌++◌, map, length, Option, Some, None, refl, sym, ap, ◌∙◌, arith}
 use Rattle.std.specs.List.{fold, flat_map, list_all, AllByRecursion}
 use Rattle.std.specs.Option.{unwrap_or, option_map}
 use Rattle.std.specs.Map.{keys_of}
@@ -11,12 +11,11 @@ use Rattle.field_tree.specs.declared.tree.Tree.TheOpen.{Tree-F}
 use Rattle.field_tree.specs.declared.values.Style.{Style}
 use Rattle.field_tree.specs.declared.values.Style.TheVariants.{Typed, Texts}
 use Rattle.field_tree.specs.Trees.{table_in, table_of, entries_of}
-use Rattle.field_tree.specs.Values.{is_empty_at, is_empty_sign}
+use Rattle.field_tree.specs.Values.{is_empty_at}
 use Rattle.field_tree.specs.Keys.{walk_cmp}
 use Rattle.dyn_config.specs.declared.found.Fault.{Fault}
 use Rattle.dyn_config.specs.declared.found.Found.{Found}
-use Rattle.dyn_config.specs.declared.found.Cause.{Cause}
-use Rattle.dyn_config.specs.declared.found.Cause.TheVariants.{Kind as kind, BadName as bad_name, TooMany as too_many}
+use Rattle.dyn_config.specs.declared.found.Cause.TheVariants.{BadName as bad_name, TooMany as too_many}
 use Rattle.dyn_config.specs.Names.{is_name}
 use Rattle.dyn_config.specs.Walk.{Entry, Stop, Check, Row, here, sooner, first_of, at_key, by_walk, is_less, is_empty_in, entries_in, in_entries, under_key, stops_in, row_stops, unknown_stop, options_fault, table, name_stop, names_fault, names, one_of}
 use Rattle.dyn_config.specs.Schema.{router_rows, service_rows, middleware_rows, http_rows, top_rows, configuration}

@@ -1,16 +1,13 @@
 -- Definitions field by field.
-use Rattle.std.proofs.Common.{◌≡◌, ℕ, ℤ, pos, negsuc, Bool, true, false, not, ◌||◌, ◌<◌, List, [], ◌∷◌, map, length, drop, get_or, Option, nat_le, sym, ap, ◌∙◌, ◌+◌}
+use Rattle.std.proofs.Common.{◌≡◌, ℕ, ℤ, pos, negsuc, Bool, true, false, not, ◌||◌, ◌<◌, List, [], map, length, drop, get_or, Option, nat_le, sym, ap, ◌∙◌, ◌+◌}
 use Rattle.std.specs.List.{list_any}
 use Rattle.std.specs.Prelude.{codes}
 use Rattle.field_tree.specs.declared.tree.Tree.{Tree}
 use Rattle.field_tree.specs.declared.values.Style.{Style}
-use Rattle.dyn_config.specs.declared.router.RouterDef.{RouterDef}
 use Rattle.dyn_config.specs.declared.service.Cookie.{Cookie}
 use Rattle.dyn_config.specs.declared.service.Health.{Health}
 use Rattle.dyn_config.specs.declared.service.ServerDef.{ServerDef}
-use Rattle.dyn_config.specs.declared.service.BalancerDef.{BalancerDef}
-use Rattle.dyn_config.specs.declared.service.MirroringDef.{MirroringDef}
-use Rattle.dyn_config.specs.Values.{is_cookie_name, is_same_site, is_cookie_text, is_probe_path, is_size, is_percent}
+use Rattle.dyn_config.specs.Values.{is_cookie_name, is_same_site, is_cookie_text, is_probe_path, is_size}
 use Rattle.dyn_config.specs.Readings.{value_under, has_option, text_in_or, text_or, number_or, natural_or, flag_or, time_or, is_other, texts_under, lines_under, elements, router_of, cookie_of, sticky_under, health_of, health_under, server_of, preserves_path, balancer_of, name_of, percent_of, mirroring_of}
 use Rattle.dyn_config.specs.declared.middleware.MiddlewareDef.TheVariants as middleware
 use Rattle.dyn_config.specs.Schema.{headers_rows, buffering_rows}

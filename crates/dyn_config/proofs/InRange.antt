@@ -1,5 +1,5 @@
 -- What is read is in its range, whatever the tree.
-use Rattle.std.proofs.Common.{◌≡◌, ℕ, ◌≤◌, ◌==◌, ◌&&◌, Bool, true, false, cond, if◌then◌else◌, nat_le, List, [], ◌∷◌, map, length, Option, Some, None, Result, Ok, Err, ℤ, pos, negsuc, refl, sym, ap, ◌∙◌, arith}
+use Rattle.std.proofs.Common.{◌≡◌, ℕ, ◌==◌, ◌&&◌, Bool, true, false, cond, if◌then◌else◌, List, [], ◌∷◌, map, length, Option, Some, None, Result, Ok, Err, ℤ, pos, negsuc, refl, sym, ap, ◌∙◌, arith}
 use Rattle.std.specs.List.{list_all, filter}
 use Rattle.std.specs.Option.{option_map, option_and_then}
 use Rattle.std.specs.Prelude.{codes}
@@ -18,7 +18,7 @@ use Rattle.dyn_config.specs.declared.service.ServiceDef.{ServiceDef}
 use Rattle.dyn_config.specs.declared.middleware.MiddlewareDef.{MiddlewareDef}
 use Rattle.dyn_config.specs.declared.service.ServiceDef.TheVariants as service
 use Rattle.dyn_config.specs.declared.middleware.MiddlewareDef.TheVariants as middleware
-use Rattle.dyn_config.specs.Readings.{failover_of, value_under, read_or, text_in_or, number_or, natural, natural_of, natural_or, time_or, elements, line_of, is_line, entries_under, lines_under, cookie_of, sticky_under, health_of, health_under, weight_of, server_of, balancer_of, name_of, weighted_of, percent_of, mirroring_of, service_by, service_in, service_of, middleware_by, middleware_in, middleware_of}
+use Rattle.dyn_config.specs.Readings.{failover_of, value_under, read_or, text_in_or, number_or, natural_of, natural_or, time_or, elements, line_of, is_line, entries_under, lines_under, cookie_of, sticky_under, health_of, weight_of, server_of, balancer_of, name_of, weighted_of, percent_of, mirroring_of, service_by, service_in, service_of, middleware_by, middleware_in, middleware_of}
 
 both : (a b : Bool) → a ≡ true → b ≡ true → (a && b) ≡ true
 both a b x y = ap (λ t. t && b) x ∙ y

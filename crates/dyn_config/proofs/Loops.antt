@@ -1,11 +1,9 @@
 -- Loops over the entries of a table, over rows and over lists, by what is left of them.
-use Rattle.std.proofs.Common.{◌≡◌, ℕ, zero, suc, ◌+◌, ◌<◌, ◌≤◌, Bool, true, false, cond, List, [], ◌∷◌, ◌++◌, map, length, drop, get_or, Option, Some, None, refl, sym, ap, ap₂, ◌∙◌, arith, add-one, append_assoc, append-nil, if◌then◌else◌, IsTrue, ◌↔◌}
+use Rattle.std.proofs.Common.{◌≡◌, ℕ, zero, suc, ◌+◌, ◌<◌, ◌≤◌, Bool, true, false, cond, List, [], ◌∷◌, ◌++◌, map, length, drop, get_or, Option, Some, refl, sym, ap, ap₂, ◌∙◌, arith, add-one, append_assoc, append-nil, if◌then◌else◌, IsTrue, ◌↔◌}
 use Rattle.std.proofs.Math.Seq.{drop-cons}
 use Rattle.std.proofs.lemmas.List.{drop_all}
 use Rattle.std.specs.List.{slice_get, fold, list_any, list_all, flat_map, filter}
-use Rattle.std.proofs.lemmas.List.Sums.{fold-append}
 use Rattle.std.specs.Map.{keys_of, values_of}
-use Rattle.std.specs.declared.cmp.Ordering.{Ordering}
 use Rattle.field_tree.specs.declared.tree.Tree.{Tree}
 use Rattle.field_tree.specs.declared.values.Style.{Style}
 use Rattle.dyn_config.specs.declared.found.Found.{Found}
@@ -16,8 +14,7 @@ use Rattle.field_tree.specs.Trees.{table_of, entries_of}
 use Rattle.dyn_config.specs.Readings.{first_or, value_first, value_under, text_or, line_of, is_line}
 use Rattle.dyn_config.specs.Steps.{NextUnder}
 use Rattle.dyn_config.specs.declared.found.Cause.TheVariants.{Twice as twice}
-use Rattle.dyn_config.specs.Walk.{here, stops_in, row_stops, is_less, Entry, Stop, Check, Row, sooner, under_key, same_key, lesser_key, least_key, named_check, or_else, first_place, under, place_step}
-use Rattle.dyn_config.specs.declared.schema.Row.{Row as Kept}
+use Rattle.dyn_config.specs.Walk.{here, stops_in, row_stops, is_less, Entry, Stop, Row, under_key, same_key, lesser_key, least_key}
 
 -- What is left of a list at one of its elements.
 pub drop_at : {X : Type 0} (xs : List X) (i : ℕ) (x : X) → i < length xs → x ≡ get_or xs i x → drop i xs ≡ x ∷ drop (i + 1) xs

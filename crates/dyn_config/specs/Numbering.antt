@@ -1,5 +1,5 @@
 -- The entries of a list of style `Texts` on the way to their order.
-use Rattle.std.specs.Prelude.{ℕ, zero, suc, if◌then◌else◌, List, [], ◌∷◌}
+use Rattle.std.specs.Prelude.{ℕ, suc, if◌then◌else◌, List, [], ◌∷◌}
 use Rattle.dyn_config.specs.Walk.{Entry, is_less, number_cmp}
 use Rattle.dyn_config.specs.declared.lists.Numbered.{Numbered}
 

@@ -1,6 +1,5 @@
 -- What the options of a table say, and what they say where they are absent.
 use Rattle.std.specs.Prelude.{ℕ, ℤ, pos, negsuc, Bool, true, false, not, ◌&&◌, ◌||◌, if◌then◌else◌, nat_le, List, [], ◌∷◌, map, filter, fold, Option, Some, None, Result, Ok, Err, is_some, unwrap_or, option_map, option_and_then, codes, bytes_eq}
-use Rattle.std.specs.Result.{result_unwrap_or}
 use Rattle.std.specs.List.{list_any}
 use Rattle.std.specs.Map.{values_of}
 use Rattle.field_tree.specs.declared.fault.ValueFault.{ValueFault}

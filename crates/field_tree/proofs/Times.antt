@@ -1,8 +1,6 @@
 -- The time of a text as a function is the time that the text spells.
 use Rattle.std.proofs.Common.{◌≡◌, ℕ, zero, suc, ◌+◌, ◌*◌, ◌<◌, ◌≤◌, ◌&&◌, nat_le, Bool, true, false, if◌then◌else◌, List, [], ◌∷◌, length, take, drop, Option, Some, None, Result, Ok, Err, ℤ, refl, sym, ap, ◌∙◌, subst, arith}
 use Rattle.std.specs.Option.{option_map}
-use Rattle.std.specs.List.{prefix_len, AllByRecursion, flat_map, sum_by}
-use Rattle.std.specs.Char.{is_ascii_digit}
 use Rattle.std.specs.Str.Parse.{digits_value}
 use Rattle.std.proofs.lemmas.Bool.Decides.{nat_tests}
 use Rattle.std.proofs.lemmas.List.{length-drop, length-take}
@@ -14,10 +12,10 @@ use Rattle.field_tree.specs.declared.tree.Tree.{Tree, out-Tree}
 use Rattle.field_tree.specs.declared.tree.Tree.TheOpen.{Tree-F}
 use Rattle.field_tree.specs.declared.durations.TimeUnit.{TimeUnit}
 use Rattle.field_tree.specs.Texts.{number_of}
-use Rattle.field_tree.specs.Durations.{unit_text, unit_millis, unit_of, Spells, IsTimeOf, IsWithinADay, seconds_time}
+use Rattle.field_tree.specs.Durations.{unit_text, unit_millis, unit_of, Spells, IsTimeOf, IsWithinADay}
 use Rattle.field_tree.specs.Values.{IsTimeBy, IsTimeAt, IsTimeIn}
-use Rattle.field_tree.specs.Times.{at_unit, at_part, parts_time, within_a_day, time_of, time_by, time_at, time_in}
-use Rattle.field_tree.proofs.Parts.{count_of, Cut, cut, rejoin, digits_first, unit_some, nothing_spells, nothing_left}
+use Rattle.field_tree.specs.Times.{at_unit, parts_time, within_a_day, time_of, time_by, time_at, time_in}
+use Rattle.field_tree.proofs.Parts.{count_of, Cut, cut, rejoin, digits_first, nothing_spells, nothing_left}
 
 some_test : (n : ℕ) → 1 ≤ n → nat_le 1 n ≡ true
 some_test n h = grind (arith, nat_tests)
@@ -84,7 +82,7 @@ within_is m h = (grind (arith, nat_tests), grind (arith, nat_tests))
 refused : (text : List ℕ) (o : Option ℕ) → parts_time (length text) text ≡ o → ((millis : ℕ) → Spells text millis → ¬ IsWithinADay millis) → within_a_day o ≡ Err Range
 refused text None e h = refl
 refused text (Some m) e h = by_test (nat_le 1 m && nat_le m 86400000) refl
-    where
+  where
     by_test : (b : Bool) → (nat_le 1 m && nat_le m 86400000) ≡ b → (if b then Ok m else Err Range) ≡ Err Range
     by_test false t = refl
     by_test true t = absurd (h m (spells (length text) text m e) (within_is m t))

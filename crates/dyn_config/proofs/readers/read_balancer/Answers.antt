@@ -1,4 +1,4 @@
-use Rattle.std.proofs.Common.{map, ap, sym, ◌∙◌, List, Bor}
+use Rattle.std.proofs.Common.{map, ap, ◌∙◌, List, Bor}
 use Rattle.field_tree.specs.declared.tree.Tree.{Tree}
 use Rattle.dyn_config.proofs.Fields.{balancer_made}
 use Rattle.dyn_config.proofs.readers.read_balancer.Goals as goal

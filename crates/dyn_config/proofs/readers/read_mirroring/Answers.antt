@@ -1,4 +1,4 @@
-use Rattle.std.proofs.Common.{map, ap, sym, ◌∙◌, List, Bor}
+use Rattle.std.proofs.Common.{map, ap, ◌∙◌, List, Bor}
 use Rattle.field_tree.specs.declared.tree.Tree.{Tree}
 use Rattle.std.proofs.Common.{not, w64}
 use Rattle.std.proofs.lemmas.Int.{to_z-of_z}

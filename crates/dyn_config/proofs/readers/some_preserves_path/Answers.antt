@@ -1,4 +1,4 @@
-use Rattle.std.proofs.Common.{map, ap, sym, ◌∙◌, List, Bor}
+use Rattle.std.proofs.Common.{sym, ◌∙◌, Bor}
 use Rattle.field_tree.specs.declared.tree.Tree.{Tree}
 use Rattle.dyn_config.specs.Readings.{preserves_path}
 use Rattle.dyn_config.proofs.Fields.{any_at, any_past}

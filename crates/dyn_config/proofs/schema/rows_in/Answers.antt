@@ -1,4 +1,4 @@
-use Rattle.std.proofs.Common.{◌≡◌, refl}
+use Rattle.std.proofs.Common.{refl}
 use Rattle.dyn_config.proofs.schema.rows_in.Goals as goal
 
 pub returns-in-Router-clause-rows : goal.returns-in-Router-clause-rows

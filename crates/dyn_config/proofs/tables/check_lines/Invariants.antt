@@ -1,7 +1,6 @@
-use Rattle.std.proofs.Common.{◌≡◌, drop, map, Option, None}
+use Rattle.std.proofs.Common.{◌≡◌, drop, map, None}
 use Rattle.std.specs.List.{fold}
 use Rattle.field_tree.specs.Keys.{walk_cmp}
-use Rattle.dyn_config.specs.declared.found.Found.{Found}
 use Rattle.dyn_config.specs.Walk.{sooner, line_stop}
 use Rattle.dyn_config.proofs.tables.check_lines.Given as goal
 

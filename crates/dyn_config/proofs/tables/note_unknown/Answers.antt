@@ -1,4 +1,4 @@
-use Rattle.std.proofs.Common.{refl, ◌∙◌, ap}
+use Rattle.std.proofs.Common.{◌∙◌, ap}
 use Rattle.field_tree.specs.Keys.{walk_cmp}
 use Rattle.dyn_config.specs.Walk.{sooner, unknown_fault}
 use Rattle.dyn_config.specs.Shapes.{rows_of}

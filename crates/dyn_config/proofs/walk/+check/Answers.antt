@@ -1,11 +1,11 @@
-use Rattle.std.proofs.Common.{◌≡◌, true, false, if◌then◌else◌, sym, ap, ◌∙◌}
+use Rattle.std.proofs.Common.{if◌then◌else◌, sym, ap, ◌∙◌}
 use Rattle.std.specs.List.{fold}
 use Rattle.std.specs.Map.{values_of}
 use Rattle.std.specs.Str.{bytes_eq}
 use Rattle.field_tree.specs.Keys.{walk_cmp}
 use Rattle.field_tree.specs.declared.values.Style.TheVariants.{Texts}
 use Rattle.dyn_config.specs.declared.found.Cause.TheVariants.{Twice, BadName}
-use Rattle.dyn_config.specs.Walk.{Row, here, sooner, name_stop, kind_stop, named_check, number_stop, number_cmp, same_number, has_twin, least_key}
+use Rattle.dyn_config.specs.Walk.{Row, here, sooner, name_stop, kind_stop, named_check, number_stop, number_cmp, least_key}
 use Rattle.dyn_config.specs.Shapes.{kinds_of, declared_check, meaning}
 use Rattle.dyn_config.proofs.Loops.{on_any, same_there, row_one, row_two}
 use Rattle.dyn_config.proofs.walk.+check.Goals.{check_names-then-is_name+in_ok-fault, check_names-else-is_name, check_kinds-then-is_same+in_ok-fault, check_kinds-else-is_same, check_numbered-then-has_twin, check_numbered-else-has_twin+in_ok-fault}

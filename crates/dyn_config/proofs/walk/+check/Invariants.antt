@@ -1,8 +1,7 @@
-use Rattle.std.proofs.Common.{◌≡◌, ◌+◌, ◌*◌, drop, map, Option, None}
+use Rattle.std.proofs.Common.{◌≡◌, ◌+◌, ◌*◌, drop, map, None}
 use Rattle.std.specs.List.{fold, flat_map}
 use Rattle.field_tree.specs.Keys.{walk_cmp}
 use Rattle.field_tree.specs.declared.values.Style.TheVariants.{Typed}
-use Rattle.dyn_config.specs.declared.schema.Shape.TheVariants.{Options, Names, Kinds}
 use Rattle.dyn_config.specs.Walk.{sooner, row_stops, name_stop, kind_stop, number_stop, number_cmp, first_place, least_key}
 use Rattle.dyn_config.specs.Shapes.{rows_of, kinds_of, declared_check, meaning, row_view, depth, table_depth}
 use Rattle.dyn_config.proofs.walk.+check.Given as goal
