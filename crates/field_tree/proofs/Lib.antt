@@ -2,3 +2,4 @@ pub mod Tables
 pub mod Digits
 pub mod Parts
 pub mod Folds
+pub mod Times

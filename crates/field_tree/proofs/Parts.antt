@@ -16,7 +16,7 @@ use Rattle.field_tree.specs.declared.durations.TimeUnit.TheVariants.{Millisecond
 use Rattle.field_tree.specs.Durations.{unit_text, unit_millis, AreDecimals, TimePart, part_text, part_millis, Spells, s_first, unit_of, FirstPart, IsWithinADay}
 use Rattle.field_tree.proofs.Digits.{and_parts}
 
-abbrev count_of : List ℕ → ℕ
+abbrev pub count_of : List ℕ → ℕ
 count_of text = prefix_len is_ascii_digit text
 
 count-append : (digits tail : List ℕ) → list_all is_ascii_digit digits ≡ true → count_of tail ≡ 0 → count_of (digits ++ tail) ≡ length digits
@@ -60,13 +60,13 @@ unit_of-text Minutes rest h = rw h refl
 unit_of-text Hours rest h = refl
 
 -- how a text that spells a time is cut
-record Cut (text : List ℕ) (millis : ℕ) : Type 0 where
-  unit : TimeUnit
-  left : ℕ
-  digits : AreDecimals (take (count_of text) text)
-  unit_is : unit_of (drop (count_of text) text) ≡ Some unit
-  rest : Spells (drop (length (unit_text unit)) (drop (count_of text) text)) left
-  time : millis ≡ digits_value 10 (take (count_of text) text) * unit_millis unit + left
+pub record Cut (text : List ℕ) (millis : ℕ) : Type 0 where
+  pub unit : TimeUnit
+  pub left : ℕ
+  pub digits : AreDecimals (take (count_of text) text)
+  pub unit_is : unit_of (drop (count_of text) text) ≡ Some unit
+  pub rest : Spells (drop (length (unit_text unit)) (drop (count_of text) text)) left
+  pub time : millis ≡ digits_value 10 (take (count_of text) text) * unit_millis unit + left
 
 cut_first : (digits rest : List ℕ) (unit : TimeUnit) (left : ℕ) → AreDecimals digits → s_first rest ≡ false → Spells rest left → Cut (digits ++ (unit_text unit ++ rest)) (digits_value 10 digits * unit_millis unit + left)
 cut_first digits rest unit left are begins more =
@@ -95,7 +95,7 @@ cut_parts text millis (part ∷ parts) are whole time some_ =
     let Q : ℕ → Type 0 = λ n. Cut (part.digits ++ (unit_text part.unit ++ rest)) n in
     subst P whole' (subst Q (sym (time ∙ sum_by-cons part_millis part parts)) (cut_first part.digits rest part.unit (sum_by part_millis parts) are.0 (parts_not_s parts are.1) more))
 
-cut : (text : List ℕ) (millis : ℕ) → Spells text millis → 0 < length text → Cut text millis
+pub cut : (text : List ℕ) (millis : ℕ) → Spells text millis → 0 < length text → Cut text millis
 cut text millis h some_ = cut_parts text millis h.parts h.decimals h.whole h.time some_
 
 after_m : (rest : List ℕ) (unit : TimeUnit) (s : Bool) → s_first rest ≡ s → (if s then Some Milliseconds else Some Minutes) ≡ Some unit → 109 ∷ rest ≡ unit_text unit ++ drop (length (unit_text unit)) (109 ∷ rest)
@@ -131,7 +131,7 @@ unit_cut [] unit e = absurd (cc)
 unit_cut (first ∷ rest) unit e = by_first first rest unit (first == 109) (first == 115) (first == 104) refl refl refl e
 
 -- a part before a text that spells a time
-rejoin : (text : List ℕ) (count : ℕ) (unit : TimeUnit) (left : ℕ) → AreDecimals (take count text) → unit_of (drop count text) ≡ Some unit → Spells (drop (length (unit_text unit)) (drop count text)) left → Spells text (digits_value 10 (take count text) * unit_millis unit + left)
+pub rejoin : (text : List ℕ) (count : ℕ) (unit : TimeUnit) (left : ℕ) → AreDecimals (take count text) → unit_of (drop count text) ≡ Some unit → Spells (drop (length (unit_text unit)) (drop count text)) left → Spells text (digits_value 10 (take count text) * unit_millis unit + left)
 rejoin text count unit left are found more =
     let rest : List ℕ = drop (length (unit_text unit)) (drop count text) in
     let part : TimePart = record { digits = take count text; unit = unit } in
@@ -154,7 +154,7 @@ all-prefix : (text : List ℕ) → list_all is_ascii_digit (take (count_of text)
 all-prefix [] = refl
 all-prefix (first ∷ rest) = all-prefix_by first rest (is_ascii_digit first) refl (all-prefix rest)
 
-digits_first : (text : List ℕ) → 0 < count_of text → AreDecimals (take (count_of text) text)
+pub digits_first : (text : List ℕ) → 0 < count_of text → AreDecimals (take (count_of text) text)
 digits_first text some_ =
     (omega (arith, length-take (count_of text) text, prefix_len-le-length is_ascii_digit text), all-prefix text)
 
@@ -164,7 +164,7 @@ kept_scaled value Seconds = omega arith
 kept_scaled value Minutes = omega arith
 kept_scaled value Hours = omega arith
 
-unit_some : (unit : TimeUnit) → 0 < length (unit_text unit)
+pub unit_some : (unit : TimeUnit) → 0 < length (unit_text unit)
 unit_some Milliseconds = omega arith
 unit_some Seconds = omega arith
 unit_some Minutes = omega arith
@@ -236,10 +236,10 @@ left_step text rest next total millis after len l p e n =
           (b.0, subst (Q b.0) (sym n) b.1, omega (arith, e1, e2));
     }
 
-nothing_spells : Spells [] 0
+pub nothing_spells : Spells [] 0
 nothing_spells = record { parts = []; decimals = tt; whole = refl; time = refl }
 
-nothing_left : (parts : List TimePart) (left : ℕ) → AllByRecursion (λ part. AreDecimals part.digits) parts → [] ≡ flat_map part_text parts → left ≡ sum_by part_millis parts → left ≡ 0
+pub nothing_left : (parts : List TimePart) (left : ℕ) → AllByRecursion (λ part. AreDecimals part.digits) parts → [] ≡ flat_map part_text parts → left ≡ sum_by part_millis parts → left ≡ 0
 nothing_left [] left are whole time = time
 nothing_left (part ∷ parts) left are whole time =
     absurd (omega (arith, ap length whole, length-append (part_text part) (flat_map part_text parts), length-append part.digits (unit_text part.unit), are.0.0))

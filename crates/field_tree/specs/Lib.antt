@@ -5,3 +5,4 @@ pub mod Texts
 pub mod Values
 pub mod Durations
 pub mod Keys
+pub mod Times

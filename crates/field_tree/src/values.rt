@@ -3,6 +3,7 @@
 ghost use Rattle.std.specs.Prelude.{◌≡◌, ◌||◌, [], Ok, Err, MatchResult, bytes_eq, codes};
 ghost use Rattle.field_tree.specs.Values.{text_of, is_empty_sign, number_in, flag_in, IsTimeIn, IsTimeBy};
 ghost use Rattle.field_tree.specs.Texts.{number_of};
+ghost use Rattle.field_tree.specs.Times.{time_in};
 
 use crate::durations::{of_seconds, read_duration};
 use crate::texts::{read_flag, read_number};
@@ -97,6 +98,14 @@ impl Tree {
 
     /// The time of a value, in milliseconds: a number of its style is seconds, and a text is a time.
     pub fn duration(&self, style: Style) -> Result<u64, ValueFault>
+        ensures value { result ≡ time_in style self.now }
+        ensures time { IsTimeIn style self.now result }
+    {
+        let time = self.time(style);
+        time
+    }
+
+    fn time(&self, style: Style) -> Result<u64, ValueFault>
         ensures { IsTimeIn style self.now result }
     {
         match style {

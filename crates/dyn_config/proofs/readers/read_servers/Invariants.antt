@@ -1,0 +1,6 @@
+use Rattle.std.proofs.Common.{◌≡◌, take, map}
+use Rattle.dyn_config.specs.Readings.{server_of}
+use Rattle.dyn_config.proofs.readers.read_servers.Given as goal
+
+abbrev pub invariant-loop-at : goal.invariant-loop-at
+invariant-loop-at l = l.servers ≡ map (server_of l.style) (map (λ element. element.now) (take l.at l.found))

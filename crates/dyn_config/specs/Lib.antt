@@ -1,0 +1,11 @@
+pub mod Names
+pub mod Values
+pub mod Kept
+pub mod Joined
+pub mod Walk
+pub mod Schema
+pub mod Shapes
+pub mod Steps
+pub mod Readings
+pub mod Numbering
+pub mod Decoding

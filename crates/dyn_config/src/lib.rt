@@ -1,0 +1,38 @@
+//! The dynamic configuration: routers, services and middlewares as typed values.
+#![tactic(auto)]
+
+mod config;
+mod decoding;
+mod fault;
+mod found;
+mod kinds;
+mod leaves;
+mod lists;
+mod merged;
+mod middleware;
+mod numbers;
+mod options;
+mod ranges;
+mod readers;
+mod references;
+mod router;
+mod rows;
+mod schema;
+mod service;
+mod tables;
+#[cfg(test)]
+mod tests;
+mod twins;
+mod walk;
+
+pub use config::Config;
+pub use decoding::decode;
+pub use fault::ConfigFault;
+pub use field_tree::Style;
+pub use merged::{Entry, Merged};
+pub use middleware::MiddlewareDef;
+pub use references::refer;
+pub use router::RouterDef;
+pub use service::{
+    BalancerDef, Cookie, FailoverDef, Health, MirroringDef, ServerDef, ServiceDef, WeightedDef,
+};
