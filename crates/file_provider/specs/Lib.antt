@@ -1,3 +1,4 @@
 pub mod Shape
 pub mod View
 pub mod Documents
+pub mod Files
