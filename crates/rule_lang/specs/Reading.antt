@@ -34,7 +34,7 @@ pub record IsReadAs (text : List ℕ) (rule : Tree) : Type 0 where
   pub means : Means text form rule
   pub is_text : IsRuleText text rule
 
--- the text is not too long, and its first tokens can't be read or begin no rule
+-- the text has tokens, and the first unexpected one stands here, or the text ends here too early
 abbrev pub IsUnexpectedAt : List ℕ → ℕ → Type 0
 IsUnexpectedAt text at = (tokens : List Token) × AreTokens text tokens × IsUnexpected (length text) tokens at
 
