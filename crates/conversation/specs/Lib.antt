@@ -1,0 +1,5 @@
+pub mod Plans
+pub mod Steps
+pub mod Asks
+pub mod Turns
+pub mod Served
