@@ -3,3 +3,4 @@ pub mod Steps
 pub mod Asks
 pub mod Turns
 pub mod Served
+pub mod Holding

@@ -1,5 +1,5 @@
 -- One request with what was made of it, and when that is the right answer.
-use Rattle.std.specs.Prelude.{◌≡◌, ◌≢◌, ℕ, ◌==◌, ◌%◌, ◌⊎◌, Bool, true, false, not, List, [], ◌∷◌, ◌++◌, Option, Some, None, if◌then◌else◌, is_some}
+use Rattle.std.specs.Prelude.{◌≡◌, ◌≢◌, ℕ, ◌==◌, ◌%◌, ◌⊎◌, Bool, true, false, not, List, [], ◌∷◌, ◌++◌, Option, Some, None, if◌then◌else◌, is_some, nat_le}
 use Rattle.ip_net.specs.declared.ip.Ip.{Ip}
 use Rattle.http_wire.specs.Own.{IsOwnReply, content_of}
 use Rattle.http_wire.specs.Spelling.{reply_text}
@@ -46,7 +46,7 @@ pub record Turn : Type 0 where
 
 -- why the connection ends after the whole reply, where it does: the first of these that holds
 abbrev pub ends_asked : ℕ → Bool → Option EndCause
-ends_asked index keep = if not keep then Some ending.Asked else if index == 1000 then Some ending.Count else None
+ends_asked index keep = if not keep then Some ending.Asked else if nat_le 1000 index then Some ending.Count else None
 
 abbrev pub ends_after : ℕ → Ask → Option EndCause
 ends_after index (asks r) = ends_asked index r.keep
@@ -129,9 +129,9 @@ IsAt up entry peer t = (r : Request) × (row : ℕ) × IsRouted entry peer r row
 IsAt picked entry peer t = (r : Request) × (row : ℕ) × IsRouted entry peer r row t
     × HasLooked (node_of t row) true t.looks × HasPicked (node_of t row) t.picks × (t.spents ≡ []) × (t.back ≡ None)
 
--- no reply is decided
-pub record IsUndecided (entry : List ℕ) (peer : Ip) (t : Turn) : Type 0 where
-  pub at : Stage
+-- no reply is decided, and the request has come so far
+pub record IsUndecided (at : Stage) (entry : List ℕ) (peer : Ip) (t : Turn) : Type 0 where
+  pub cause : t.cause ≡ Undecided
   pub stage : IsAt at entry peer t
   pub status : t.status ≡ 0
   pub reply : t.reply ≡ []
@@ -154,7 +154,7 @@ IsSpent entry peer node t = (r : Request) × (row : ℕ) × IsRouted entry peer 
 -- each cause, with what shows it
 abbrev pub AnswersBy : Cause → List ℕ → Ip → Turn → Type 0
 AnswersBy Passed entry peer t = ⊥
-AnswersBy Undecided entry peer t = IsUndecided entry peer t
+AnswersBy Undecided entry peer t = (at : Stage) × IsUndecided at entry peer t
 AnswersBy (Head fault) entry peer t = (refusal t.ask ≡ Some (t.status, Head fault)) × AnswersOwn t.status t × IsUnrouted t
 AnswersBy HeadTooLarge entry peer t = (refusal t.ask ≡ Some (t.status, HeadTooLarge)) × AnswersOwn t.status t × IsUnrouted t
 AnswersBy NoRouter entry peer t = IsLost entry peer t × AnswersOwn 404 t × IsUnrouted t
