@@ -1,0 +1,3 @@
+pub mod Finds
+pub mod Opens
+pub mod Starts

@@ -1,0 +1,246 @@
+-- What an open machine keeps, and what each event on the client's link leaves of it.
+use Rattle.std.proofs.Common.{◌≡◌, ◌≢◌, ◌⊎◌, inl, inr, zero, suc, ℕ, ◌+◌, ◌<◌, ◌≤◌, List, [], ◌∷◌, ◌++◌, length, take, drop, Option, Some, None, refl, sym, ◌∙◌, ap, subst, arith, Bool, true, false}
+use Rattle.std.specs.List.{flat_map, AllByRecursion}
+use Rattle.std.proofs.lemmas.List.{append-nil, append_assoc, length-append, take-append-le, drop-append-le}
+use Rattle.ip_net.specs.declared.ip.Ip.{Ip}
+use Rattle.httparse.specs.Grammar.{MayBecomeRequest}
+use Rattle.link_world.specs.declared.note.Note.{Note}
+use Rattle.link_world.specs.declared.note.EndCause.{EndCause}
+use Rattle.link_world.specs.Log.{LinkEvent, came, gave, gave_end, took, noted, ends}
+use Rattle.conversation.specs.Steps.{Step, happened, failed, stopped, history, failures, stops}
+use Rattle.conversation.specs.Asks.{Ask, IsItem}
+use Rattle.conversation.specs.Turns.{Stage as TurnStage, Turn}
+use Rattle.conversation.specs.Served.{of_last, notes_of, IsKept, EndHolds, end_note}
+use Rattle.conversation.specs.Holding.{Told, told, Holds, Sound}
+use Rattle.conversation.proofs.Tellings.{told_happened, told_failed, told_stopped, sound_happened, sound_failed, sound_stopped, failures_more, stops_more}
+use Rattle.conversation.proofs.Holdings.{holds_came, holds_gave, holds_over, holds_took}
+use Rattle.conn_machine.specs.Parts.{Trail, TiedBy, AtStage, AtHead, AtPin, AtTurn, IsOpenAt}
+use Rattle.conn_machine.specs.Reached.{Reached, Kept, Opened, PhaseHolds, ending_note, closed_by, trail_of, pending_of}
+use Rattle.conn_machine.specs.declared.parts.Client.{Client}
+use Rattle.conn_machine.specs.declared.parts.Current.{Current}
+use Rattle.conn_machine.specs.declared.parts.Stage.{Stage}
+use Rattle.conn_machine.specs.declared.parts.Stage.TheVariants.{Head, Pin, Route, Look, Walk, Dial, Exchange, Reply}
+use Rattle.conn_machine.specs.declared.parts.Phase.{Phase}
+use Rattle.conn_machine.specs.declared.parts.Phase.TheVariants.{Open, Broken, Over}
+use Rattle.conn_machine.specs.declared.conn.Conn.{Conn}
+
+-- the same at equal parts
+pub holds_as : {t u : Told} {link : ℕ} {entry : List ℕ} {peer : Ip} {done : List Turn} {last last' : Option Turn} {rest rest' left left' : List ℕ} {waiting waiting' closed closed' ending ending' : List Note} {over over' : Bool} {number number' next next' : ℕ}
+    → u ≡ t → last' ≡ last → rest' ≡ rest → left' ≡ left → waiting' ≡ waiting → closed' ≡ closed → ending' ≡ ending → over' ≡ over → number' ≡ number → next' ≡ next
+    → Holds t link entry peer done last rest left waiting closed ending over number next
+    → Holds u link entry peer done last' rest' left' waiting' closed' ending' over' number' next'
+holds_as a b c d e f g h i j r = rw (a, b, c, d, e, f, g, h, i, j) r
+
+-- what an open machine stores
+pub opened : {steps : List Step} {c : Conn} → c.phase ≡ Open → Reached steps c
+    → Opened steps c.client c.current (trail_of c) c.input.items (pending_of c) c.notes.items c.over c.stage
+opened {steps} {c} is r =
+    let p : PhaseHolds Open steps c r.done r.last r.rest r.left r.kept.next =
+    subst (λ (p : Phase). PhaseHolds p steps c r.done r.last r.rest r.left r.kept.next) is r.phase in
+    record {
+      done = r.done;
+      last = r.last;
+      rest = r.rest;
+      holds = holds_as refl refl refl (sym p.1) refl refl (sym (ap (ending_note c.client.link) is)) refl refl (sym p.0) r.kept.holds;
+      sound = r.kept.sound;
+      tied = r.kept.tied;
+      kept = p.2;
+      stage = p.3;
+    }
+
+pub reached_open : {steps : List Step} (d : Conn) → d.phase ≡ Open
+    → Opened steps d.client d.current (trail_of d) d.input.items (pending_of d) d.notes.items d.over d.stage → Reached steps d
+reached_open {steps} d is o =
+    let k : Kept steps d.client d.current (trail_of d) d.notes.items (ending_note d.client.link d.phase) d.over o.done o.last o.rest (pending_of d) = record {
+      next = d.current.index;
+      holds = holds_as refl refl refl refl refl refl (ap (ending_note d.client.link) is) refl refl refl o.holds;
+      sound = o.sound;
+      tied = o.tied;
+    } in
+    record {
+      done = o.done;
+      last = o.last;
+      rest = o.rest;
+      left = pending_of d;
+      kept = k;
+      phase = subst (λ (p : Phase). PhaseHolds p steps d o.done o.last o.rest (pending_of d) d.current.index) (sym is) (refl, refl, o.kept, o.stage);
+    }
+
+-- a machine whose bytes may be lost
+pub reached_broken : {steps : List Step} (d : Conn) {input pending : List ℕ} {at : Stage} → d.phase ≡ Broken
+    → Opened steps d.client d.current (trail_of d) input pending d.notes.items d.over at → Reached steps d
+reached_broken {steps} d {pending} is o = record {
+  done = o.done;
+  last = o.last;
+  rest = o.rest;
+  left = pending;
+  kept = record {
+    next = d.current.index;
+    holds = holds_as refl refl refl refl refl refl (ap (ending_note d.client.link) is) refl refl refl o.holds;
+    sound = o.sound;
+    tied = o.tied;
+  };
+  phase = subst (λ (p : Phase). PhaseHolds p steps d o.done o.last o.rest pending d.current.index) (sym is) tt;
+}
+
+-- a machine that ends
+pub reached_over : {steps : List Step} (d : Conn) (cause : EndCause) {input pending : List ℕ} {at : Stage} → d.phase ≡ Over cause
+    → (o : Opened steps d.client d.current (trail_of d) input pending d.notes.items d.over at)
+    → EndHolds cause (history d.client.link steps) o.done o.last o.rest pending (failures d.client.link steps ≢ []) (stops steps ≢ []) → Reached steps d
+reached_over {steps} d cause {pending} is o ending = record {
+  done = o.done;
+  last = o.last;
+  rest = o.rest;
+  left = pending;
+  kept = record {
+    next = d.current.index;
+    holds = holds_as refl refl refl refl refl refl (ap (ending_note d.client.link) is) refl refl refl o.holds;
+    sound = o.sound;
+    tied = o.tied;
+  };
+  phase = subst (λ (p : Phase). PhaseHolds p steps d o.done o.last o.rest pending d.current.index) (sym is) ending;
+}
+
+turn_gave : {m : Current} {input : List ℕ} {last : Option Turn} {rest : List ℕ} {P : Turn → Type 0} (piece : List ℕ) {input' : List ℕ} → input' ≡ input ++ piece
+    → AtTurn m input last rest P → AtTurn m input' last (rest ++ piece) P
+turn_gave {m} {input} {rest} piece {input'} is h = record {
+  turn = h.turn;
+  last_is = h.last_is;
+  pinned = h.pinned;
+  rest_is = ap (λ (l : List ℕ). l ++ piece) h.rest_is ∙ sym (ap (λ (l : List ℕ). drop m.size l) is ∙ drop-append-le m.size input piece h.fits);
+  fits = (let e : length input' ≡ length (input ++ piece) = ap (length {A = ℕ}) is in let l : length (input ++ piece) ≡ length input + length piece = length-append input piece in let f : m.size ≤ length input = h.fits in omega arith);
+  asked = h.asked;
+  holds = h.holds;
+}
+
+stage_gave : (at : Stage) {k : Client} {m : Current} {input pending : List ℕ} {last : Option Turn} {rest : List ℕ} (piece : List ℕ) {input' : List ℕ} → input' ≡ input ++ piece
+    → AtStage at k m input pending last rest → AtStage at k m input' pending last (rest ++ piece)
+stage_gave Head {k} {m} {input} piece is h = record {
+  last_is = h.last_is;
+  unpinned = h.unpinned;
+  rest_is = ap (λ (l : List ℕ). l ++ piece) h.rest_is ∙ sym is;
+  none = h.none;
+}
+stage_gave Pin {k} {m} {input} piece {input'} is h = record {
+  last_is = h.last_is;
+  unpinned = h.unpinned;
+  rest_is = ap (λ (l : List ℕ). l ++ piece) h.rest_is ∙ sym is;
+  none = h.none;
+  fits = (let e : length input' ≡ length (input ++ piece) = ap (length {A = ℕ}) is in let l : length (input ++ piece) ≡ length input + length piece = length-append input piece in let f : m.size ≤ length input = h.fits in omega arith);
+  ask = h.ask;
+  item = subst (λ (l : List ℕ). IsItem k.peer l h.ask) (sym (ap (λ (l : List ℕ). take m.size l) is ∙ take-append-le m.size input piece h.fits)) h.item;
+  asked = h.asked;
+}
+stage_gave Route piece is h = turn_gave piece is h
+stage_gave Look piece is h = turn_gave piece is h
+stage_gave Walk piece is h = turn_gave piece is h
+stage_gave Dial piece is h = turn_gave piece is h
+stage_gave Exchange piece is h = h
+stage_gave Reply piece is h = turn_gave piece is h
+
+pub opened_gave : {steps : List Step} {k : Client} {m : Current} {trail : Trail} {input pending : List ℕ} {waiting : List Note} {over : Bool} {at : Stage} (piece : List ℕ) {input' : List ℕ}
+    → input' ≡ input ++ piece → Opened steps k m trail input pending waiting over at
+    → Opened (steps ++ happened k.link (gave piece) ∷ []) k m trail input' pending waiting over at
+opened_gave {steps} {k} {at} piece is o = record {
+  done = o.done;
+  last = o.last;
+  rest = o.rest ++ piece;
+  holds = holds_as (told_happened k.link steps (gave piece)) refl refl refl refl refl refl refl refl refl (holds_gave piece refl o.holds);
+  sound = sound_happened k.link steps (gave piece) k.entry k.peer o.done o.last o.holds.arrived o.sound;
+  tied = o.tied;
+  kept = o.kept;
+  stage = stage_gave at piece is o.stage;
+}
+
+pub opened_over : {steps : List Step} {k : Client} {m : Current} {trail : Trail} {input pending : List ℕ} {waiting : List Note} {over : Bool} {at : Stage}
+    → Opened steps k m trail input pending waiting over at
+    → Opened (steps ++ happened k.link gave_end ∷ []) k m trail input pending waiting true at
+opened_over {steps} {k} o = record {
+  done = o.done;
+  last = o.last;
+  rest = o.rest;
+  holds = holds_as (told_happened k.link steps gave_end) refl refl refl refl refl refl refl refl refl (holds_over o.holds);
+  sound = sound_happened k.link steps gave_end k.entry k.peer o.done o.last o.holds.arrived o.sound;
+  tied = o.tied;
+  kept = o.kept;
+  stage = o.stage;
+}
+
+drop_none : (n : ℕ) (xs ys : List ℕ) → xs ≡ [] → ys ≡ drop n xs → ys ≡ []
+drop_none n xs ys none is = is ∙ ap (λ (l : List ℕ). drop n l) none ∙ empty n
+  where
+    empty : (n : ℕ) → drop n (let e : List ℕ = [] in e) ≡ []
+    empty n = elim n as (λ k. drop k (let e : List ℕ = [] in e) ≡ []) [ zero ↦ refl | suc k ↦ refl ]
+
+open_took : {m : Current} {entry : List ℕ} {peer : Ip} {input pending : List ℕ} {last : Option Turn} {rest : List ℕ} {at : TurnStage} (n : ℕ) {pending' : List ℕ} → pending' ≡ drop n pending
+    → AtTurn m input last rest (IsOpenAt entry peer m pending at) → AtTurn m input last rest (IsOpenAt entry peer m pending' at)
+open_took {pending} n {pending'} is h = record {
+  turn = h.turn;
+  last_is = h.last_is;
+  pinned = h.pinned;
+  rest_is = h.rest_is;
+  fits = h.fits;
+  asked = h.asked;
+  holds = record { undecided = h.holds.undecided; plan = h.holds.plan; none = drop_none n pending pending' h.holds.none is };
+}
+
+stage_took : (at : Stage) {k : Client} {m : Current} {input pending : List ℕ} {last : Option Turn} {rest : List ℕ} (n : ℕ) {pending' : List ℕ} → pending' ≡ drop n pending
+    → AtStage at k m input pending last rest → AtStage at k m input pending' last rest
+stage_took Head {pending} n {pending'} is h = record { last_is = h.last_is; unpinned = h.unpinned; rest_is = h.rest_is; none = drop_none n pending pending' h.none is }
+stage_took Pin {pending} n {pending'} is h = record {
+  last_is = h.last_is;
+  unpinned = h.unpinned;
+  rest_is = h.rest_is;
+  none = drop_none n pending pending' h.none is;
+  fits = h.fits;
+  ask = h.ask;
+  item = h.item;
+  asked = h.asked;
+}
+stage_took Route n is h = open_took n is h
+stage_took Look n is h = open_took n is h
+stage_took Walk n is h = open_took n is h
+stage_took Dial n is h = open_took n is h
+stage_took Exchange n is h = h
+stage_took Reply n is h = h
+
+pub opened_took : {steps : List Step} {k : Client} {m : Current} {trail : Trail} {input pending : List ℕ} {waiting : List Note} {over : Bool} {at : Stage} (n : ℕ) {pending' : List ℕ}
+    → pending' ≡ drop n pending → Opened steps k m trail input pending waiting over at
+    → Opened (steps ++ happened k.link (took (take n pending)) ∷ []) k m trail input pending' waiting over at
+opened_took {steps} {k} {pending} {at} n is o = record {
+  done = o.done;
+  last = o.last;
+  rest = o.rest;
+  holds = holds_as (told_happened k.link steps (took (take n pending))) refl refl refl refl refl refl refl refl refl (holds_took n is o.holds);
+  sound = sound_happened k.link steps (took (take n pending)) k.entry k.peer o.done o.last o.holds.arrived o.sound;
+  tied = o.tied;
+  kept = o.kept;
+  stage = stage_took at n is o.stage;
+}
+
+-- the client's link failed, or a stop came: nothing else changes
+pub opened_failed : {steps : List Step} {k : Client} {m : Current} {trail : Trail} {input pending : List ℕ} {waiting : List Note} {over : Bool} {at : Stage}
+    → Opened steps k m trail input pending waiting over at → Opened (steps ++ failed k.link ∷ []) k m trail input pending waiting over at
+opened_failed {steps} {k} o = record {
+  done = o.done;
+  last = o.last;
+  rest = o.rest;
+  holds = holds_as (told_failed k.link k.link steps) refl refl refl refl refl refl refl refl refl o.holds;
+  sound = sound_failed k.link steps k.entry k.peer o.done o.last o.holds.arrived o.sound;
+  tied = o.tied;
+  kept = o.kept;
+  stage = o.stage;
+}
+
+pub opened_stopped : {steps : List Step} {k : Client} {m : Current} {trail : Trail} {input pending : List ℕ} {waiting : List Note} {over : Bool} {at : Stage}
+    → Opened steps k m trail input pending waiting over at → Opened (steps ++ stopped ∷ []) k m trail input pending waiting over at
+opened_stopped {steps} {k} o = record {
+  done = o.done;
+  last = o.last;
+  rest = o.rest;
+  holds = holds_as (told_stopped k.link steps) refl refl refl refl refl refl refl refl refl o.holds;
+  sound = sound_stopped steps k.entry k.peer o.done o.last o.sound;
+  tied = o.tied;
+  kept = o.kept;
+  stage = o.stage;
+}

@@ -1,0 +1,74 @@
+//! The parts of a connection's machine.
+use crate::generation::Generation;
+use http_wire::Request;
+use ip_net::Ip;
+use link_world::{Cause, EndCause};
+use px_base::Bytes;
+use std::alloc::Global;
+use std::sync::Arc;
+
+/// Where a connection came.
+#[derive(Debug, Drop)]
+pub struct Client {
+    pub link: u32,
+    pub entry: Bytes,
+    pub peer: Ip,
+}
+
+/// What the current request asks for.
+#[derive(Debug, Drop)]
+pub enum Asked {
+    Nothing,
+    Request(Request),
+    /// It is refused for this cause.
+    Refused(Cause),
+}
+
+/// The current request: what it asks for, the length of its head, and what its note will say.
+#[derive(Drop)]
+pub struct Current {
+    pub asked: Asked,
+    pub size: usize,
+    pub issue: Option<Arc<Generation, Global>>,
+    pub pinned: bool,
+    /// Its place on the connection, from 1.
+    pub index: u32,
+    /// The number of the last pin.
+    pub number: u64,
+    pub router: Option<u32>,
+    pub status: u16,
+    pub cause: Cause,
+}
+
+/// What a connection waits for.
+#[derive(Clone, Copy, Debug, PartialEq, Eq)]
+pub enum Stage {
+    /// The head of a request.
+    Head,
+    /// A configuration.
+    Pin,
+    /// Nothing: the router is looked for.
+    Route,
+    /// Which servers are up.
+    Look,
+    /// A pick.
+    Walk,
+    /// A link to the server.
+    Dial,
+    /// The server.
+    Exchange,
+    /// The client, to take the reply.
+    Reply,
+}
+
+/// Whether a connection goes on.
+#[derive(Clone, Copy, Debug, PartialEq, Eq)]
+pub enum Phase {
+    Open,
+    /// A call found no memory: what was read or answered may not be stored.
+    Broken,
+    /// It ends for this cause.
+    Over(EndCause),
+    /// Its end was noted.
+    Told(EndCause),
+}
