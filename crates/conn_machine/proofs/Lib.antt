@@ -1,3 +1,5 @@
 pub mod Finds
 pub mod Opens
 pub mod Starts
+pub mod Turnings
+pub mod Tells

@@ -113,15 +113,15 @@ turn_gave {m} {input} {rest} piece {input'} is h = record {
   holds = h.holds;
 }
 
-stage_gave : (at : Stage) {k : Client} {m : Current} {input pending : List ℕ} {last : Option Turn} {rest : List ℕ} (piece : List ℕ) {input' : List ℕ} → input' ≡ input ++ piece
+stage_gave : (at : Stage) (k : Client) (m : Current) (input pending : List ℕ) (last : Option Turn) (rest piece input' : List ℕ) → input' ≡ input ++ piece
     → AtStage at k m input pending last rest → AtStage at k m input' pending last (rest ++ piece)
-stage_gave Head {k} {m} {input} piece is h = record {
+stage_gave Head k m input pending last rest piece input' is h = record {
   last_is = h.last_is;
   unpinned = h.unpinned;
   rest_is = ap (λ (l : List ℕ). l ++ piece) h.rest_is ∙ sym is;
   none = h.none;
 }
-stage_gave Pin {k} {m} {input} piece {input'} is h = record {
+stage_gave Pin k m input pending last rest piece input' is h = record {
   last_is = h.last_is;
   unpinned = h.unpinned;
   rest_is = ap (λ (l : List ℕ). l ++ piece) h.rest_is ∙ sym is;
@@ -131,17 +131,17 @@ stage_gave Pin {k} {m} {input} piece {input'} is h = record {
   item = subst (λ (l : List ℕ). IsItem k.peer l h.ask) (sym (ap (λ (l : List ℕ). take m.size l) is ∙ take-append-le m.size input piece h.fits)) h.item;
   asked = h.asked;
 }
-stage_gave Route piece is h = turn_gave piece is h
-stage_gave Look piece is h = turn_gave piece is h
-stage_gave Walk piece is h = turn_gave piece is h
-stage_gave Dial piece is h = turn_gave piece is h
-stage_gave Exchange piece is h = h
-stage_gave Reply piece is h = turn_gave piece is h
+stage_gave Route k m input pending last rest piece input' is h = turn_gave piece is h
+stage_gave Look k m input pending last rest piece input' is h = turn_gave piece is h
+stage_gave Walk k m input pending last rest piece input' is h = turn_gave piece is h
+stage_gave Dial k m input pending last rest piece input' is h = turn_gave piece is h
+stage_gave Exchange k m input pending last rest piece input' is h = h
+stage_gave Reply k m input pending last rest piece input' is h = turn_gave piece is h
 
 pub opened_gave : {steps : List Step} {k : Client} {m : Current} {trail : Trail} {input pending : List ℕ} {waiting : List Note} {over : Bool} {at : Stage} (piece : List ℕ) {input' : List ℕ}
     → input' ≡ input ++ piece → Opened steps k m trail input pending waiting over at
     → Opened (steps ++ happened k.link (gave piece) ∷ []) k m trail input' pending waiting over at
-opened_gave {steps} {k} {at} piece is o = record {
+opened_gave {steps} {k} {m} {input} {pending} {at} piece {input'} is o = record {
   done = o.done;
   last = o.last;
   rest = o.rest ++ piece;
@@ -149,7 +149,7 @@ opened_gave {steps} {k} {at} piece is o = record {
   sound = sound_happened k.link steps (gave piece) k.entry k.peer o.done o.last o.holds.arrived o.sound;
   tied = o.tied;
   kept = o.kept;
-  stage = stage_gave at piece is o.stage;
+  stage = stage_gave at k m input pending o.last o.rest piece input' is o.stage;
 }
 
 pub opened_over : {steps : List Step} {k : Client} {m : Current} {trail : Trail} {input pending : List ℕ} {waiting : List Note} {over : Bool} {at : Stage}
@@ -166,11 +166,16 @@ opened_over {steps} {k} o = record {
   stage = o.stage;
 }
 
+nothing_left : (n : ℕ) → drop n (let e : List ℕ = [] in e) ≡ []
+nothing_left n = elim n as (λ k. drop k (let e : List ℕ = [] in e) ≡ []) [ zero ↦ refl | suc k ↦ refl ]
+
 drop_none : (n : ℕ) (xs ys : List ℕ) → xs ≡ [] → ys ≡ drop n xs → ys ≡ []
-drop_none n xs ys none is = is ∙ ap (λ (l : List ℕ). drop n l) none ∙ empty n
-  where
-    empty : (n : ℕ) → drop n (let e : List ℕ = [] in e) ≡ []
-    empty n = elim n as (λ k. drop k (let e : List ℕ = [] in e) ≡ []) [ zero ↦ refl | suc k ↦ refl ]
+drop_none n xs ys none is = is ∙ ap (λ (l : List ℕ). drop n l) none ∙ nothing_left n
+
+pub drop_add : (a n : ℕ) (xs : List ℕ) → drop (a + n) xs ≡ drop n (drop a xs)
+drop_add zero n xs = let e : zero + n ≡ n = omega arith in ap (λ (k : ℕ). drop k xs) e
+drop_add (suc a) n [] = nothing_left (suc a + n) ∙ sym (nothing_left n)
+drop_add (suc a) n (x ∷ xs) = let e : suc a + n ≡ suc (a + n) = omega arith in ap (λ (k : ℕ). drop k (x ∷ xs)) e ∙ drop_add a n xs
 
 open_took : {m : Current} {entry : List ℕ} {peer : Ip} {input pending : List ℕ} {last : Option Turn} {rest : List ℕ} {at : TurnStage} (n : ℕ) {pending' : List ℕ} → pending' ≡ drop n pending
     → AtTurn m input last rest (IsOpenAt entry peer m pending at) → AtTurn m input last rest (IsOpenAt entry peer m pending' at)
@@ -184,10 +189,10 @@ open_took {pending} n {pending'} is h = record {
   holds = record { undecided = h.holds.undecided; plan = h.holds.plan; none = drop_none n pending pending' h.holds.none is };
 }
 
-stage_took : (at : Stage) {k : Client} {m : Current} {input pending : List ℕ} {last : Option Turn} {rest : List ℕ} (n : ℕ) {pending' : List ℕ} → pending' ≡ drop n pending
+stage_took : (at : Stage) (k : Client) (m : Current) (input pending : List ℕ) (last : Option Turn) (rest : List ℕ) (n : ℕ) (pending' : List ℕ) → pending' ≡ drop n pending
     → AtStage at k m input pending last rest → AtStage at k m input pending' last rest
-stage_took Head {pending} n {pending'} is h = record { last_is = h.last_is; unpinned = h.unpinned; rest_is = h.rest_is; none = drop_none n pending pending' h.none is }
-stage_took Pin {pending} n {pending'} is h = record {
+stage_took Head k m input pending last rest n pending' is h = record { last_is = h.last_is; unpinned = h.unpinned; rest_is = h.rest_is; none = drop_none n pending pending' h.none is }
+stage_took Pin k m input pending last rest n pending' is h = record {
   last_is = h.last_is;
   unpinned = h.unpinned;
   rest_is = h.rest_is;
@@ -197,17 +202,17 @@ stage_took Pin {pending} n {pending'} is h = record {
   item = h.item;
   asked = h.asked;
 }
-stage_took Route n is h = open_took n is h
-stage_took Look n is h = open_took n is h
-stage_took Walk n is h = open_took n is h
-stage_took Dial n is h = open_took n is h
-stage_took Exchange n is h = h
-stage_took Reply n is h = h
+stage_took Route k m input pending last rest n pending' is h = open_took n is h
+stage_took Look k m input pending last rest n pending' is h = open_took n is h
+stage_took Walk k m input pending last rest n pending' is h = open_took n is h
+stage_took Dial k m input pending last rest n pending' is h = open_took n is h
+stage_took Exchange k m input pending last rest n pending' is h = h
+stage_took Reply k m input pending last rest n pending' is h = h
 
 pub opened_took : {steps : List Step} {k : Client} {m : Current} {trail : Trail} {input pending : List ℕ} {waiting : List Note} {over : Bool} {at : Stage} (n : ℕ) {pending' : List ℕ}
     → pending' ≡ drop n pending → Opened steps k m trail input pending waiting over at
     → Opened (steps ++ happened k.link (took (take n pending)) ∷ []) k m trail input pending' waiting over at
-opened_took {steps} {k} {pending} {at} n is o = record {
+opened_took {steps} {k} {m} {input} {pending} {at} n {pending'} is o = record {
   done = o.done;
   last = o.last;
   rest = o.rest;
@@ -215,7 +220,7 @@ opened_took {steps} {k} {pending} {at} n is o = record {
   sound = sound_happened k.link steps (took (take n pending)) k.entry k.peer o.done o.last o.holds.arrived o.sound;
   tied = o.tied;
   kept = o.kept;
-  stage = stage_took at n is o.stage;
+  stage = stage_took at k m input pending o.last o.rest n pending' is o.stage;
 }
 
 -- the client's link failed, or a stop came: nothing else changes

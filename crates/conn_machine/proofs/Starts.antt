@@ -1,10 +1,14 @@
 -- How a connection begins, finds its next request, and ends without one.
 use Rattle.std.proofs.Common.{◌≡◌, ◌≢◌, ◌⊎◌, inl, inr, ℕ, ◌+◌, ◌<◌, ◌≤◌, List, [], ◌∷◌, ◌++◌, length, take, drop, min, Option, Some, None, refl, sym, ◌∙◌, ap, subst, arith, Bool, true, false}
 use Rattle.std.specs.List.{AllByRecursion}
+use Rattle.std.proofs.Common.{Vec}
+use Rattle.std.specs.declared.alloc.Global.{Global}
 use Rattle.std.proofs.lemmas.List.{append-nil, length-take, take-append-le, take-append-drop, take_all}
 use Rattle.std.proofs.Math.Seq.{take-length}
 use Rattle.httparse.specs.Grammar.{MayBecomeRequest}
 use Rattle.link_world.specs.declared.note.Note.{Note}
+use Rattle.link_world.specs.declared.note.Look.{Look}
+use Rattle.link_world.specs.declared.note.NodePick.{NodePick}
 use Rattle.link_world.specs.declared.note.EndCause.TheVariants.{Client as ByClient, Memory}
 use Rattle.link_world.specs.Log.{came, ends}
 use Rattle.conversation.specs.Steps.{Step, happened, history, failures, stops}
@@ -21,7 +25,7 @@ use Rattle.conn_machine.specs.declared.parts.Current.{Current}
 use Rattle.conn_machine.specs.declared.parts.Stage.{Stage}
 use Rattle.conn_machine.specs.declared.parts.Stage.TheVariants.{Head, Pin}
 use Rattle.conn_machine.specs.declared.parts.Phase.{Phase}
-use Rattle.conn_machine.specs.declared.parts.Phase.TheVariants.{Open, Broken, Over}
+use Rattle.conn_machine.specs.declared.parts.Phase.TheVariants.{Open, Broken, Over, Told}
 use Rattle.conn_machine.specs.declared.heads.Found.{Found}
 use Rattle.conn_machine.specs.declared.heads.Found.TheVariants as found
 use Rattle.conn_machine.specs.declared.conn.Conn.{Conn}
@@ -95,14 +99,41 @@ opened_found {k} {m} {trail} {input} asked n {m'} asked_is size pinned number in
 }
 
 -- a call found no memory
-pub reached_given_up : {steps : List Step} {c : Conn} (d : Conn) → d.phase ≡ Over Memory → ending_note c.client.link c.phase ≡ []
-    → d.client ≡ c.client → d.current ≡ c.current → trail_of d ≡ trail_of c → d.notes ≡ c.notes → d.over ≡ c.over
-    → Reached steps c → Reached steps d
-reached_given_up {steps} {c} d is none client current trail notes over r = record {
+pub reached_given_up : {steps : List Step} {c : Conn} → ending_note c.client.link c.phase ≡ [] → Reached steps c → Reached steps (record c { phase = Over Memory })
+reached_given_up {steps} {c} none r = record {
   done = r.done;
   last = r.last;
   rest = r.rest;
   left = r.left;
-  kept = rw (is, client, current, trail, notes, over) (record { next = r.kept.next; holds = holds_as refl refl refl refl refl refl (sym none) refl refl refl r.kept.holds; sound = r.kept.sound; tied = r.kept.tied });
-  phase = subst (λ (p : Phase). PhaseHolds p steps d r.done r.last r.rest r.left r.kept.next) (sym is) tt;
+  kept = record { next = r.kept.next; holds = holds_as refl refl refl refl refl refl (sym none) refl refl refl r.kept.holds; sound = r.kept.sound; tied = r.kept.tied };
+  phase = tt;
 }
+
+-- room was made
+pub reached_reserved : {steps : List Step} {c : Conn} (input : Vec ℕ Global) (looks : Vec Look Global) (picks : Vec NodePick Global) (backs : Vec ℕ Global) (notes : Vec Note Global)
+    → input.items ≡ c.input.items → looks.items ≡ c.looks.items → picks.items ≡ c.picks.items → backs.items ≡ c.backs.items → notes.items ≡ c.notes.items
+    → Reached steps c → Reached steps (record c { input = input; looks = looks; picks = picks; backs = backs; notes = notes })
+reached_reserved {steps} {c} input looks picks backs notes i l p b n r = record {
+  done = r.done;
+  last = r.last;
+  rest = r.rest;
+  left = r.left;
+  kept = record {
+    next = r.kept.next;
+    holds = holds_as refl refl refl refl n refl refl refl refl refl r.kept.holds;
+    sound = r.kept.sound;
+    tied = subst (λ (t : Trail). TiedBy c.current.pinned c.current t r.last) (trail c.looks.items looks.items c.picks.items picks.items c.backs.items backs.items (sym l) (sym p) (sym b)) r.kept.tied;
+  };
+  phase = by c.phase r.phase;
+}
+  where
+    trail : (a a' : List Look) (x x' : List NodePick) (y y' : List ℕ) → a ≡ a' → x ≡ x' → y ≡ y'
+        → (let t : Trail = record { looks = a; picks = x; backs = y } in t) ≡ record { looks = a'; picks = x'; backs = y' }
+    trail a a' x x' y y' e f g = cc
+
+    by : (q : Phase) → PhaseHolds q steps c r.done r.last r.rest r.left r.kept.next
+        → PhaseHolds q steps (record c { input = input; looks = looks; picks = picks; backs = backs; notes = notes }) r.done r.last r.rest r.left r.kept.next
+    by Open h = (h.0, h.1, h.2, subst (λ (x : List ℕ). AtStage c.stage c.client c.current x (pending_of c) r.last r.rest) (sym i) h.3)
+    by Broken h = tt
+    by (Over cause) h = h
+    by (Told cause) h = h

@@ -144,7 +144,7 @@ impl Conn {
         ensures reached { (steps : List Step) → Reached steps self.old → Reached steps self.new }
     {
         self.phase = Phase::Broken;
-        let found = read_head(alloc, front(&self.input), self.client.peer)?;
+        let found = read_head(alloc, front(self.input.as_slice()), self.client.peer)?;
         self.phase = Phase::Open;
         match found {
             Found::Part => {
@@ -188,8 +188,11 @@ impl Conn {
         ensures over { IsEnding self.new.phase }
         ensures reached { (steps : List Step) → Reached steps self.old → Reached steps self.new }
     {
-        if matches!(self.phase, Phase::Open | Phase::Broken) {
-            self.phase = Phase::Over(EndCause::Memory);
+        match self.phase {
+            Phase::Open => self.phase = Phase::Over(EndCause::Memory),
+            Phase::Broken => self.phase = Phase::Over(EndCause::Memory),
+            Phase::Over(_) => {}
+            Phase::Told(_) => {}
         }
     }
 
@@ -202,11 +205,12 @@ impl Conn {
 }
 
 // As many of the bytes as a head may have.
-fn front(input: &Vec<u8>) -> &[u8]
-    ensures { result.now ≡ take 16384 input.now.items }
+fn front(input: &[u8]) -> &[u8]
+    ensures front { result.now ≡ take 16384 input.now }
+    ensures short { length result.now ≤ 16384 }
 {
     if input.len() <= HEAD_LIMIT {
-        input.as_slice()
+        input
     } else {
         &input[..HEAD_LIMIT]
     }
