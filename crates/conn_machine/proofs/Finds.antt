@@ -74,15 +74,15 @@ fits_any fault.BadTarget = refl
 fits_any fault.BadEscape = refl
 
 -- a head with a fault
-pub found_faulty : (buf : List ℕ) (room : List HeaderSpan) (s : HeadSpans) (peer : Ip) (f : HeadFault) (asked : Asked)
+pub found_faulty : (buf : List ℕ) (room : List HeaderSpan) (s : HeadSpans) (peer : Ip) (e : RequestRefused) (f : HeadFault) (asked : Asked)
     → AreHeadSpans 100 buf room s → length buf ≤ 16384
-    → TakesRequest (span_bytes buf s.method) (span_bytes buf s.target) s.version (lines_at buf (take s.lines room)) peer (Err (refused.Head f))
-    → asked ≡ Refused (causes.Head (name_of f))
+    → TakesRequest (span_bytes buf s.method) (span_bytes buf s.target) s.version (lines_at buf (take s.lines room)) peer (Err e)
+    → e ≡ refused.Head f → asked ≡ Refused (causes.Head (name_of f))
     → IsFound peer buf (found.Head asked s.len)
-found_faulty buf room s peer f asked spans short t is =
+found_faulty buf room s peer e f asked spans short t e_is is =
     let h : RequestHead = spans.0 in
     let item : IsHead (take s.len buf) h = is_head buf room s h spans.1 spans.2 short in
-    let fault_is : IsHeadFault h.method h.target h.minor (fields_of h) f = takes_at buf room s h peer (Err (refused.Head f)) spans.1 t in
+    let fault_is : IsHeadFault h.method h.target h.minor (fields_of h) f = takes_at buf room s h peer (Err (refused.Head f)) spans.1 (subst (λ (x : RequestRefused). TakesRequest (span_bytes buf s.method) (span_bytes buf s.target) s.version (lines_at buf (take s.lines room)) peer (Err x)) e_is t) in
     (within buf room s h spans.1, faulty f, (h, item, fault_is), subst (λ (a : Asked). Fits a (faulty f)) (sym is) (fits_any f))
 
 -- all of the bytes are refused
@@ -95,8 +95,11 @@ found_bad buf peer asked n all is never =
     subst (λ (m : ℕ). IsFound peer buf (found.Head asked m)) (sym all)
     (omega arith, broken, whole buf (λ (l : List ℕ). IsItem peer l broken) never, subst (λ (a : Asked). Fits a broken) (sym is) refl)
 
-pub found_large : (buf : List ℕ) (peer : Ip) (n : ℕ) → n ≡ length buf → ¬ (HasHead 100 buf) → length buf ≤ 16384 → (length buf ≡ 16384) ⊎ (100 < line_feeds buf)
+pub found_large : (buf : List ℕ) (peer : Ip) (n : ℕ) → n ≡ length buf → ¬ (HasHead 100 buf) → length buf ≤ 16384 → (16384 ≤ length buf) ⊎ (100 < line_feeds buf)
     → IsFound peer buf (found.Head (Refused causes.HeadTooLarge) n)
 found_large buf peer n all none short why =
     subst (λ (m : ℕ). IsFound peer buf (found.Head (Refused causes.HeadTooLarge) m)) (sym all)
-    (omega arith, large, whole buf (λ (l : List ℕ). IsItem peer l large) (none, short, why), refl)
+    (omega arith, large, whole buf (λ (l : List ℕ). IsItem peer l large) (none, short, full), refl)
+  where
+    full : (length buf ≡ 16384) ⊎ (100 < line_feeds buf)
+    full = elim why [ inl long ↦ inl (omega arith) | inr many ↦ inr many ]

@@ -15,7 +15,7 @@ use Rattle.conversation.specs.Holding.{Told, told, Holds, Sound}
 use Rattle.conversation.proofs.Tellings.{told_happened, told_failed, told_stopped, sound_happened, sound_failed, sound_stopped, failures_more, stops_more}
 use Rattle.conversation.proofs.Holdings.{holds_came, holds_gave, holds_over, holds_took}
 use Rattle.conn_machine.specs.Parts.{Trail, TiedBy, AtStage, AtHead, AtPin, AtTurn, IsOpenAt}
-use Rattle.conn_machine.specs.Reached.{Reached, Kept, Opened, PhaseHolds, ending_note, closed_by, trail_of, pending_of}
+use Rattle.conn_machine.specs.Reached.{Reached, Kept, Opened, PhaseHolds, ending_note, closed_by, trail_of, pending_of, Waits}
 use Rattle.conn_machine.specs.declared.parts.Client.{Client}
 use Rattle.conn_machine.specs.declared.parts.Current.{Current}
 use Rattle.conn_machine.specs.declared.parts.Stage.{Stage}
@@ -249,3 +249,9 @@ opened_stopped {steps} {k} o = record {
   kept = o.kept;
   stage = o.stage;
 }
+
+-- what an open machine stores at this stage
+pub opened_at : {steps : List Step} {at : Stage} {c : Conn} → Waits at c → Reached steps c
+    → Opened steps c.client c.current (trail_of c) c.input.items (pending_of c) c.notes.items c.over at
+opened_at {steps} {c} w r =
+    subst (λ (s : Stage). Opened steps c.client c.current (trail_of c) c.input.items (pending_of c) c.notes.items c.over s) w.stage (opened w.phase r)

@@ -6,6 +6,7 @@ use Rattle.std.specs.declared.alloc.Global.{Global}
 use Rattle.std.proofs.lemmas.List.{append-nil, length-take, take-append-le, take-append-drop, take_all}
 use Rattle.std.proofs.Math.Seq.{take-length}
 use Rattle.httparse.specs.Grammar.{MayBecomeRequest}
+use Rattle.ip_net.specs.declared.ip.Ip.{Ip}
 use Rattle.link_world.specs.declared.note.Note.{Note}
 use Rattle.link_world.specs.declared.note.Look.{Look}
 use Rattle.link_world.specs.declared.note.NodePick.{NodePick}
@@ -49,6 +50,10 @@ opened_came k m trail unpinned number index = record {
     closes true = refl
     closes false = refl
 
+pub opened_new : (k : Client) (m : Current) (trail : Trail) (entry input pending : List ℕ) (waiting : List Note) → entry ≡ k.entry → input ≡ [] → pending ≡ [] → waiting ≡ []
+    → m.pinned ≡ false → m.number ≡ 0 → m.index ≡ 1 → Opened (happened k.link (came entry k.peer) ∷ []) k m trail input pending waiting false Head
+opened_new k m trail entry input pending waiting e i p w unpinned number index = rw (e, i, p, w) (opened_came k m trail unpinned number index)
+
 short_take : (input : List ℕ) → length (take 16384 input) < 16384 → take 16384 input ≡ input
 short_take input short =
     let e : length (take 16384 input) ≡ min 16384 (length input) = length-take 16384 input in
@@ -71,6 +76,10 @@ front_take n input le = sym (take-append-le n (take 16384 input) (drop 16384 inp
 
 front_le : (n : ℕ) (input : List ℕ) → n ≤ length (take 16384 input) → n ≤ length input
 front_le n input le = let e : length (take 16384 input) ≡ min 16384 (length input) = length-take 16384 input in omega arith
+
+pub found_at : (peer : Ip) (buf slice input : List ℕ) (f g : Found) → buf ≡ take 16384 slice → slice ≡ input → f ≡ g → IsFound peer buf f → IsFound peer (take 16384 input) g
+found_at peer buf slice input f g a b e h =
+    subst (λ (x : Found). IsFound peer (take 16384 input) x) e (subst (λ (l : List ℕ). IsFound peer l f) (a ∙ ap (λ (l : List ℕ). take 16384 l) b) h)
 
 -- a request is whole or refused
 pub opened_found : {steps : List Step} {k : Client} {m : Current} {trail : Trail} {input pending : List ℕ} {waiting : List Note} {over : Bool} (asked : Asked) (n : ℕ) {m' : Current}

@@ -2,6 +2,8 @@
 use Rattle.std.proofs.Common.{◌≡◌, ◌≢◌, ◌⊎◌, inl, inr, ℕ, ◌+◌, ◌<◌, ◌≤◌, List, [], ◌∷◌, ◌++◌, length, take, drop, Option, Some, None, refl, sym, ◌∙◌, ap, subst, arith, Bool, true, false, not, if◌then◌else◌}
 use Rattle.std.specs.List.{flat_map, AllByRecursion}
 use Rattle.std.specs.Prelude.{is_some, nat_le}
+use Rattle.std.proofs.Common.{Vec}
+use Rattle.std.specs.declared.alloc.Global.{Global}
 use Rattle.std.proofs.lemmas.List.{append-nil}
 use Rattle.ip_net.specs.declared.ip.Ip.{Ip}
 use Rattle.http_wire.specs.declared.message.Request.{Request as HttpRequest}
@@ -215,7 +217,7 @@ abbrev pub replied : Turn → ℕ → Cause → List ℕ → Turn
 replied t status cause text = record t { status = status; cause = cause; reply = text; whole = true }
 
 pub opened_replied : {steps : List Step} {k : Client} {m : Current} {trail : Trail} {input pending : List ℕ} {waiting : List Note} {over : Bool} {at : TurnStage} (status : ℕ) (cause : Cause) (text : List ℕ) {m' : Current} {pending' : List ℕ}
-    → IsAlike m m' → m'.router ≡ m.router → m'.status ≡ status → m'.cause ≡ cause → pending' ≡ pending ++ text
+    → IsAlike m m' → m'.router ≡ m.router → m'.status ≡ status → m'.cause ≡ cause → pending' ≡ text
     → (t : Turning steps k m trail input pending waiting over (IsOpenAt k.entry k.peer m pending at))
     → Answers k.entry k.peer (replied t.turn status cause text)
     → Opened steps k m' trail input pending' waiting over Reply
@@ -227,7 +229,7 @@ opened_replied {steps} {k} {m} {trail} {input} {pending} {waiting} {over} status
       turn = v;
       rest = t.rest;
       holds = holds_as refl refl refl refl refl refl refl refl alike.number alike.index
-        (holds_replied v text (record { index = refl; item = refl; plan = refl; looks = refl; picks = refl; spents = refl }) (sym (ap (λ (l : List ℕ). l ++ text) t.has.undecided.reply)) in_pending t.holds);
+        (holds_replied v text (record { index = refl; item = refl; plan = refl; looks = refl; picks = refl; spents = refl }) (sym (ap (λ (l : List ℕ). l ++ text) t.has.undecided.reply)) (in_pending ∙ sym (ap (λ (l : List ℕ). l ++ text) t.has.none)) t.holds);
       sound = record { all = t.sound.all; one = record { item = t.sound.one.item; answers = answers; shown = t.sound.one.shown } };
       tied = record {
         index = t.tied.index ∙ sym alike.index;
@@ -316,7 +318,7 @@ refused_answers entry peer t (BackLate l b n) text fits u own = absurd (head_cau
 
 -- the request is refused
 pub opened_refused : {steps : List Step} {k : Client} {m : Current} {trail : Trail} {input pending : List ℕ} {waiting : List Note} {over : Bool} (cause : Cause) (status : ℕ) (close : Bool) (text : List ℕ) {m' : Current} {pending' : List ℕ}
-    → IsAlike m m' → m'.router ≡ m.router → m'.status ≡ status → m'.cause ≡ cause → pending' ≡ pending ++ text
+    → IsAlike m m' → m'.router ≡ m.router → m'.status ≡ status → m'.cause ≡ cause → pending' ≡ text
     → status ≡ refused_status cause → close ≡ is_some (end_by m.index m.asked) → IsOwnText status close text
     → IsRoute k.entry k.peer m.asked (issue_plan m.issue) (route.Refused cause)
     → Opened steps k m trail input pending waiting over Route
@@ -330,7 +332,7 @@ opened_refused {steps} {k} {m} {trail} {input} {pending} {waiting} {over} cause 
 
 -- no router wins
 pub opened_lost : {steps : List Step} {k : Client} {m : Current} {trail : Trail} {input pending : List ℕ} {waiting : List Note} {over : Bool} (close : Bool) (text : List ℕ) {m' : Current} {pending' : List ℕ}
-    → IsAlike m m' → m'.router ≡ m.router → m'.status ≡ 404 → m'.cause ≡ NoRouter → pending' ≡ pending ++ text
+    → IsAlike m m' → m'.router ≡ m.router → m'.status ≡ 404 → m'.cause ≡ NoRouter → pending' ≡ text
     → close ≡ is_some (end_by m.index m.asked) → IsOwnText 404 close text
     → IsRoute k.entry k.peer m.asked (issue_plan m.issue) route.Lost
     → Opened steps k m trail input pending waiting over Route
@@ -473,3 +475,13 @@ reached_left {steps} {c} d is over h none end o =
     let kept : IsKept t.turn = ap (λ (n : ℕ). ends_after n t.turn.ask) t.tied.index ∙ ends_fit c.current.index c.current.asked t.turn.ask t.asked ∙ end in
     left_over d ending.Client is h none t
     (subst (λ (k : Client). ends (history k.link steps) ≢ []) (sym h.client) (t.holds.closes over), refl, refl, all_both IsKept t.done (t.turn ∷ []) t.kept (kept, tt), inr (some_turns t.done t.turn))
+
+-- the note of equal lists
+pub note_same : (link : ℕ) (m : Current) (a a' : Vec LookNote Global) (b b' : Vec NodePick Global) (d d' : Vec ℕ Global) → a ≡ a' → b ≡ b' → d ≡ d'
+    → note_by link m a.items b.items d.items ≡ note_by link m a'.items b'.items d'.items
+note_same link m a a' b b' d d' e f g = rw (e, f, g) refl
+
+-- what was found of the router, at equal parts
+pub route_at : (text entry : List ℕ) (peer : Ip) (m : Current) (f g : Routed) → text ≡ entry → f ≡ g → IsRoute text peer m.asked (issue_plan m.issue) f → IsRoute entry peer m.asked (issue_plan m.issue) g
+route_at text entry peer m f g a b h =
+    subst (λ (x : Routed). IsRoute entry peer m.asked (issue_plan m.issue) x) b (subst (λ (l : List ℕ). IsRoute l peer m.asked (issue_plan m.issue) f) a h)

@@ -5,7 +5,7 @@ ghost use Rattle.conversation.specs.Steps.{Step, happened, failed, stopped};
 ghost use Rattle.conn_machine.specs.Reached.{Reached, IsOpen, Waits, HasRoom, IsEnding, IsGoing, trail_of, pending_of};
 
 use crate::generation::Generation;
-use crate::heads::{Found, HEAD_LIMIT, read_head};
+use crate::heads::{Found, read_head};
 use crate::parts::{Asked, Client, Current, Phase, Stage};
 use ip_net::Ip;
 use link_world::{Cause, EndCause, Look, NodePick, Note};
@@ -209,10 +209,10 @@ fn front(input: &[u8]) -> &[u8]
     ensures front { result.now ≡ take 16384 input.now }
     ensures short { length result.now ≤ 16384 }
 {
-    if input.len() <= HEAD_LIMIT {
+    if input.len() <= 16384 {
         input
     } else {
-        &input[..HEAD_LIMIT]
+        &input[..16384]
     }
 }
 

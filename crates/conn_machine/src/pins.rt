@@ -85,6 +85,8 @@ impl Conn {
             Routed::Unknown => return Err(AllocError),
             Routed::Refused(cause) => {
                 let status = refused_status(cause);
+                self.out.clear();
+                self.sent = 0;
                 own_text(alloc, status, close, &mut self.out)?;
                 self.current.status = status;
                 self.current.cause = cause;
@@ -92,6 +94,8 @@ impl Conn {
                 self.phase = Phase::Open;
             }
             Routed::Lost => {
+                self.out.clear();
+                self.sent = 0;
                 own_text(alloc, 404, close, &mut self.out)?;
                 self.current.status = 404;
                 self.current.cause = Cause::NoRouter;
