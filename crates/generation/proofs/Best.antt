@@ -1,11 +1,11 @@
 -- The best of the routers is the winner.
-use Rattle.std.proofs.Common.{◌≡◌, ◌≢◌, ℕ, suc, ◌+◌, ◌<◌, ◌≤◌, ◌==◌, ◌&&◌, ◌||◌, inl, inr, ◌⊎◌, List, [], ◌∷◌, ◌++◌, Option, Some, None, refl, sym, ap, ◌∙◌, subst, arith, Bool, true, false, drop, length, get_or, append_assoc, append-nil, nat_lt, Less, Equal, Greater, Contains, Ordering, if◌then◌else◌, ◌↔◌, eq-eqb}
+use Rattle.std.proofs.Common.{◌≡◌, ℕ, suc, ◌<◌, ◌==◌, ◌&&◌, inl, inr, ◌⊎◌, List, [], ◌∷◌, ◌++◌, Option, Some, None, refl, sym, ap, ◌∙◌, subst, arith, Bool, true, false, drop, length, get_or, append_assoc, append-nil, nat_lt, Less, Equal, Greater, Ordering, if◌then◌else◌, eq-eqb}
 use Rattle.std.proofs.Math.Bool.{or-true}
 use Rattle.std.specs.Cmp.Derive.{both_true}
 use Rattle.std.proofs.Math.Seq.{drop-cons}
 use Rattle.std.proofs.lemmas.List.Elements.{Contains-push_cases, Contains-append_left, Contains-push}
 use Rattle.std.proofs.lemmas.Cmp.{nat_list_cmp_total}
-use Rattle.std.proofs.lemmas.Bool.{false≢true, or_cases, cases_Bool, ltb-true, lt-ltb}
+use Rattle.std.proofs.lemmas.Bool.{false≢true, or_cases, ltb-true, lt-ltb}
 use Rattle.std.proofs.lemmas.Bool.Decides.{eqb_tells}
 use Rattle.std.specs.Cmp.{tied_itself}
 use Rattle.std.specs.Ordering.{nat_cmp, is_lt}
@@ -38,10 +38,10 @@ same_of a b h = elim (eqb_tells a b) [ inl s ↦ s.1 | inr n ↦ absurd (false�
 
 beats_of : (q p : Route) → has_won q p ≡ true → Beats q p
 beats_of q p h = elim (or_cases (nat_lt p.priority q.priority) (q.priority == p.priority && is_lt (slice_cmp nat_cmp q.name p.name)) h) [
-    | inl more ↦ inl (ltb-true p.priority q.priority more)
-    | inr tie ↦ (let both = both_of (q.priority == p.priority) (is_lt (slice_cmp nat_cmp q.name p.name)) tie in
+  | inl more ↦ inl (ltb-true p.priority q.priority more)
+  | inr tie ↦ (let both = both_of (q.priority == p.priority) (is_lt (slice_cmp nat_cmp q.name p.name)) tie in
       inr (same_of q.priority p.priority both.0, less_of (slice_cmp nat_cmp q.name p.name) both.1))
-  ]
+]
 
 -- beating is transitive, and no router beats itself
 beats_trans : (p q r : Route) → Beats p q → Beats q r → Beats p r
@@ -90,7 +90,7 @@ step_some qs x p r won = by (takes x r && has_won x p) refl
       best = λ q has t. λ w. elim (Contains-push_cases qs x q has) [
         | inl h ↦ won.best q h t w
         | inr e ↦ (let t' = taken x r q (sym e) t in let w' : has_won x p ≡ true = subst (λ (y : Route). has_won y p ≡ true) (sym e) w in
-          false≢true (sym is ∙ both_true t' w'))
+            false≢true (sym is ∙ both_true t' w'))
       ];
     }
 

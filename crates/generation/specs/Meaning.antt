@@ -1,5 +1,5 @@
 -- What a published configuration means to a connection.
-use Rattle.std.specs.Prelude.{◌≡◌, ℕ, ◌==◌, Bool, false, List, [], ◌∷◌, Option, Some, None, if◌then◌else◌}
+use Rattle.std.specs.Prelude.{ℕ, ◌==◌, false, List, [], ◌∷◌, None, if◌then◌else◌}
 use Rattle.std.specs.Option.{option_map}
 use Rattle.conversation.specs.Plans.{Plan, Target as Aim}
 use Rattle.generation.specs.declared.route.Route.{Route}
@@ -25,7 +25,7 @@ target_at (q ∷ qs) row = if q.row == row then aim_of q.target else target_at q
 -- its number, the winner's row, and where each row leads
 abbrev pub plan_of : Generation → Plan
 plan_of g = record {
-    number = g.number;
-    winner = λ entry r peer. option_map row_of (best_of r None g.routes);
-    target = λ row. target_at g.routes row;
-  }
+  number = g.number;
+  winner = λ entry r peer. option_map row_of (best_of r None g.routes);
+  target = λ row. target_at g.routes row;
+}

@@ -1,9 +1,8 @@
 -- When a router's rule is true of a request, and which router a request goes to.
-use Rattle.std.specs.Prelude.{◌≡◌, ℕ, ◌<◌, ◌==◌, ◌&&◌, ◌||◌, ◌⊎◌, Bool, true, List, [], ◌∷◌, ◌++◌, length, take, Contains, IsTrue, Option, Some, None, if◌then◌else◌, nat_lt, nat_eq}
+use Rattle.std.specs.Prelude.{◌≡◌, ℕ, ◌==◌, ◌&&◌, ◌||◌, Bool, true, List, [], ◌∷◌, length, take, Contains, Option, Some, None, if◌then◌else◌, nat_lt, nat_eq}
 use Rattle.std.specs.Str.{str_eq_ignore_ascii_case, bytes_eq}
 use Rattle.std.specs.Ordering.{nat_cmp, is_lt}
 use Rattle.std.specs.Cmp.Lexicographic.{slice_cmp, pointwise}
-use Rattle.std.specs.declared.cmp.Ordering.TheVariants.{Less}
 use Rattle.http_wire.specs.Targets.{host_of_rules, without_dot}
 use Rattle.http_wire.specs.declared.message.Request.{Request}
 use Rattle.rule_lang.specs.declared.leaf.Leaf.{Leaf}

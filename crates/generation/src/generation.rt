@@ -7,7 +7,8 @@ ghost use Rattle.generation.specs.Meaning.{plan_of, row_of, aim_of, target_at, n
 use crate::route::{Route, Target, beats, takes};
 use http_wire::Request;
 use ip_net::Ip;
-use px_base::List as Items;
+use px_base::{List as Items, Memory};
+use std::alloc::Global;
 
 /// A configuration as it was published, under its number.
 #[derive(Debug, Drop)]
@@ -32,18 +33,22 @@ impl Generation {
         self.number
     }
 
-    /// The row of the router that a request gets at an entry point, if it gets one. Each router is on every entry point.
-    pub fn winner(&self, entry: &[u8], request: &Request, peer: Ip) -> Option<u32>
-        ensures { result ≡ (plan_of self.now).winner entry.now request.now peer }
+    /// The row of the router that a request gets at an entry point, if it gets one. Each router is on every entry point
+    /// and no rule has a pattern yet, so neither the entry point nor memory is asked for.
+    pub fn winner(
+        &self,
+        _alloc: Global,
+        _entry: &[u8],
+        request: &Request,
+        _peer: Ip,
+    ) -> Result<Option<u32>, Memory>
+        ensures { IfOk result (λ row. row ≡ (plan_of self.now).winner _entry.now request.now _peer) }
     {
         let mut best = None;
         for route in self.routes.as_slice() {
             best = better(best, route, request);
         }
-        match best {
-            Some(route) => Some(route.row),
-            None => None,
-        }
+        Ok(best.map(|route| route.row))
     }
 
     /// Where the router in a row leads.

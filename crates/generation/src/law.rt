@@ -8,5 +8,4 @@ ghost use Rattle.generation.specs.Winner.{best_of, IsBest};
 /// rule is true has a greater priority, or an equal one and a smaller name; none where no rule is true.
 pub fn winner_law()
     ensures { (routes : List Route) (r : Request) → IsBest routes r (best_of r None routes) }
-{
-}
+{}

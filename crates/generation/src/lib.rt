@@ -4,6 +4,8 @@
 mod generation;
 mod law;
 mod route;
+#[cfg(test)]
+mod tests;
 
 pub use generation::Generation;
 pub use law::winner_law;

@@ -3,8 +3,7 @@ ghost use Rattle.std.specs.Prelude.{◌≡◌, ◌↔◌, IsTrue};
 ghost use Rattle.http_wire.specs.Targets.{without_dot};
 ghost use Rattle.generation.specs.Winner.{takes as takes_request, has_won, truth};
 
-use http_wire::Request;
-use http_wire::host_of_rules;
+use http_wire::{Request, host_of_rules};
 use px_base::{Bytes, fold_equal};
 use rule_lang::{Leaf, Matcher};
 use std::cmp::Ordering;
@@ -59,7 +58,11 @@ fn is_true(rule: &Leaf, host: &[u8], path: &[u8]) -> bool
 pub(crate) fn takes(route: &Route, request: &Request) -> bool
     ensures { result ≡ takes_request route.now request.now }
 {
-    is_true(&route.rule, host_of_rules(request.host.as_slice()), request.path.as_slice())
+    is_true(
+        &route.rule,
+        host_of_rules(request.host.as_slice()),
+        request.path.as_slice(),
+    )
 }
 
 /// Whether the router wins over the other one: by a greater priority, then by a smaller name.
