@@ -87,3 +87,21 @@ has_port host =
 -- the port of a host text: those digits, else that of the scheme
 abbrev pub port_of : List ℕ → List ℕ
 port_of host = if has_port host then drop (length host - last_digits host) host else codes "80"
+
+-- a colon stands before the digits at the end, of which there may be none
+abbrev pub has_colon : List ℕ → Bool
+has_colon host =
+    let digits = last_digits host in
+    nat_lt digits (length host) && slice_index host (length host - digits - 1) == 58
+
+-- what stands before that colon and those digits
+abbrev pub without_port : List ℕ → List ℕ
+without_port host = if has_colon host then take (length host - last_digits host - 1) host else host
+
+-- the text without one dot at its end
+abbrev pub without_dot : List ℕ → List ℕ
+without_dot text = if slice_index text (length text - 1) == 46 then take (length text - 1) text else text
+
+-- the host that rules see, of a host text
+abbrev pub host_of_rules : List ℕ → List ℕ
+host_of_rules host = without_dot (without_port host)

@@ -3,7 +3,7 @@ ghost use Rattle.std.specs.Prelude.{◌≡◌, ℕ, List, ◌≤◌, ◌<◌, �
 ghost use Rattle.std.specs.List.{list_all, position};
 ghost use Rattle.std.specs.Option.{option_map};
 ghost use Rattle.path_norm.specs.Normal.{IsRooted};
-ghost use Rattle.http_wire.specs.Targets.{is_origin, is_absolute, ends_authority, behind_scheme, before_place, from_place, behind_place, authority_of, path_and_query, is_question, or_slash, path_of, query_of, host_text_of, is_target_byte, is_bad_target, last_digits, has_port, port_of};
+ghost use Rattle.http_wire.specs.Targets.{is_origin, is_absolute, ends_authority, behind_scheme, before_place, from_place, behind_place, authority_of, path_and_query, is_question, or_slash, path_of, query_of, host_text_of, is_target_byte, is_bad_target, last_digits, has_port, port_of, has_colon, without_port as text_without_port, without_dot, host_of_rules as rule_host};
 
 use px_base::fold_equal;
 
@@ -141,4 +141,32 @@ fn digits_at_end(text: &[u8]) -> usize
     ensures value { result ≡ last_digits text.now }
 {
     text.iter().rev().take_while(|b| b.is_ascii_digit()).count()
+}
+
+/// The host that rules see, of a request's host text: without a last `:` that digits alone or nothing follow, and
+/// without one last dot.
+pub fn host_of_rules(host: &[u8]) -> &[u8]
+    ensures { result.now ≡ rule_host host.now }
+{
+    without_last_dot(without_port(host))
+}
+
+fn without_port(host: &[u8]) -> &[u8]
+    ensures { result.now ≡ text_without_port host.now }
+{
+    let digits = digits_at_end(host);
+    if digits < host.len() && host[host.len() - digits - 1] == b':' {
+        &host[..host.len() - digits - 1]
+    } else {
+        host
+    }
+}
+
+fn without_last_dot(text: &[u8]) -> &[u8]
+    ensures { result.now ≡ without_dot text.now }
+{
+    match text {
+        [front @ .., b'.'] => front,
+        _ => text,
+    }
 }
