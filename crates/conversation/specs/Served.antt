@@ -1,5 +1,5 @@
 -- One connection that was served: its bytes in, its bytes out and its notes.
-use Rattle.std.specs.Prelude.{◌≡◌, ◌≢◌, ℕ, ◌+◌, ◌≤◌, ◌⊎◌, Bool, true, List, [], ◌∷◌, ◌++◌, Option, Some, None}
+use Rattle.std.specs.Prelude.{◌≡◌, ◌≢◌, ℕ, ◌+◌, ◌≤◌, ◌⊎◌, Bool, true, false, List, [], ◌∷◌, ◌++◌, Option, Some, None}
 use Rattle.std.specs.List.{flat_map, AllByRecursion, Contains}
 use Rattle.ip_net.specs.declared.ip.Ip.{Ip}
 use Rattle.httparse.specs.Grammar.{MayBecomeRequest}
@@ -10,12 +10,13 @@ use Rattle.link_world.specs.declared.note.NoteBody.TheVariants as body
 use Rattle.link_world.specs.declared.note.RequestNote.{RequestNote}
 use Rattle.link_world.specs.declared.note.Look.{Look}
 use Rattle.link_world.specs.declared.note.NodePick.{NodePick}
+use Rattle.link_world.specs.declared.note.Cause.TheVariants.{Passed}
 use Rattle.link_world.specs.declared.note.EndCause.{EndCause}
 use Rattle.link_world.specs.declared.note.EndCause.TheVariants.{Client, ClientFailed, Asked, Refused, Unread, Idle, Count, Cut, CutLate, Stopped, Memory}
 use Rattle.conversation.specs.Plans.{Plan}
 use Rattle.conversation.specs.Steps.{Step, history, failures, pins, looks, picks, spents, stops}
 use Rattle.conversation.specs.Asks.{IsItem}
-use Rattle.conversation.specs.Turns.{Turn, note_of, end_of, Answers, IsShown}
+use Rattle.conversation.specs.Turns.{BackLink, Turn, note_of, end_of, Answers, IsShown}
 
 -- a list of each request, and of a last one where there is one
 abbrev pub of_last : {A : Type 0} → (Turn → List A) → Option Turn → List A
@@ -79,6 +80,15 @@ abbrev pub EndsAfter : EndCause → List Turn → Type 0
 EndsAfter cause done =
     (front : List Turn) × (t : Turn) × (done ≡ front ++ t ∷ []) × AllByRecursion IsKept front × (end_of t ≡ Some cause)
 
+-- the reply was begun, and its link failed or ended before its content was whole
+pub record IsCutBy (link : ℕ) (t : Turn) : Type 0 where
+  pub begun : t.cause ≡ Passed
+  pub unfinished : t.whole ≡ false
+  pub back : BackLink
+  pub back_is : t.back ≡ Some back
+  pub number : back.link ≡ link
+  pub why : (back.faults ≢ []) ⊎ (ends back.events ≢ [])
+
 -- When each end comes. `rest` is what the client gave and no request has, `left` what of the replies it didn't take,
 -- `last` a request whose whole reply it didn't take.
 abbrev pub EndHolds : EndCause → List LinkEvent → (done : List Turn) → Option Turn → (rest left : List ℕ) → (failed stopped : Type 0) → Type 0
@@ -90,7 +100,7 @@ EndHolds Refused history done last rest left failed stopped = (left ≡ []) × (
 EndHolds Unread history done last rest left failed stopped = ⊥
 EndHolds (Idle base now) history done last rest left failed stopped = ⊥
 EndHolds Count history done last rest left failed stopped = (left ≡ []) × (last ≡ None) × EndsAfter Count done
-EndHolds (Cut link) history done last rest left failed stopped = ⊥
+EndHolds (Cut link) history done last rest left failed stopped = IfLast (IsCutBy link) last × (last ≢ None)
 EndHolds (CutLate base now) history done last rest left failed stopped = ⊥
 EndHolds Stopped history done last rest left failed stopped = stopped
 EndHolds Memory history done last rest left failed stopped = Unit {0}

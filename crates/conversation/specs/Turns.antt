@@ -2,10 +2,12 @@
 use Rattle.std.specs.Prelude.{◌≡◌, ◌≢◌, ℕ, ◌==◌, ◌%◌, ◌⊎◌, Bool, true, false, not, List, [], ◌∷◌, ◌++◌, Option, Some, None, if◌then◌else◌, is_some, nat_le}
 use Rattle.ip_net.specs.declared.ip.Ip.{Ip}
 use Rattle.http_wire.specs.Own.{IsOwnReply, content_of}
-use Rattle.http_wire.specs.Spelling.{reply_text}
+use Rattle.http_wire.specs.Spelling.{request_text, reply_text}
+use Rattle.back_machine.specs.Forwarding.{authority_text}
+use Rattle.back_machine.specs.Replies.{HasReply, HasNoReply, HasNoReplyYet, IsWhole}
 use Rattle.http_wire.specs.declared.message.Request.{Request}
 use Rattle.http_wire.specs.declared.message.Reply.{Reply}
-use Rattle.link_world.specs.Log.{LinkEvent, dialled}
+use Rattle.link_world.specs.Log.{LinkEvent, dialled, given, taken, ends}
 use Rattle.link_world.specs.declared.note.Note.{Note}
 use Rattle.link_world.specs.declared.note.NoteBody.TheVariants as body
 use Rattle.link_world.specs.declared.note.RequestNote.{RequestNote}
@@ -116,9 +118,25 @@ HasPicked node picks = (p : NodePick) × (picks ≡ p ∷ []) × (p.node ≡ nod
 abbrev pub node_of : Turn → ℕ → ℕ
 node_of t row = (t.plan.target row).node
 
+-- the message that goes to the server
+abbrev pub message_to : Target → Request → List ℕ
+message_to aim r = request_text r (authority_text aim.host aim.port) aim.pass_host
+
+-- the link was dialled to the server, and took a part of the message from its front on
+pub record IsSent (entry : List ℕ) (peer : Ip) (r : Request) (row : ℕ) (b : BackLink) (t : Turn) : Type 0 where
+  pub won : IsRouted entry peer r row t
+  pub looked : HasLooked (node_of t row) true t.looks
+  pub picked : HasPicked (node_of t row) t.picks
+  pub accepted : t.spents ≡ []
+  pub back : t.back ≡ Some b
+  pub more : List LinkEvent
+  pub dialled : b.events ≡ dialled (t.plan.target row).host (t.plan.target row).port ∷ more
+  pub unsent : List ℕ
+  pub message : message_to (t.plan.target row) r ≡ taken b.events ++ unsent
+
 -- how far a request without a reply has come
 pub data Stage : Type 0 where
-  unrouted routed up picked : Stage
+  unrouted routed down up refused picked sent : Stage
 
 abbrev pub IsAt : Stage → List ℕ → Ip → Turn → Type 0
 IsAt unrouted entry peer t = IsUnrouted t
@@ -128,6 +146,12 @@ IsAt up entry peer t = (r : Request) × (row : ℕ) × IsRouted entry peer r row
     × HasLooked (node_of t row) true t.looks × (t.picks ≡ []) × (t.spents ≡ []) × (t.back ≡ None)
 IsAt picked entry peer t = (r : Request) × (row : ℕ) × IsRouted entry peer r row t
     × HasLooked (node_of t row) true t.looks × HasPicked (node_of t row) t.picks × (t.spents ≡ []) × (t.back ≡ None)
+
+IsAt down entry peer t = (r : Request) × (row : ℕ) × IsRouted entry peer r row t
+    × HasLooked (node_of t row) false t.looks × (t.picks ≡ []) × (t.spents ≡ []) × (t.back ≡ None)
+IsAt refused entry peer t = (r : Request) × (row : ℕ) × IsRouted entry peer r row t
+    × HasLooked (node_of t row) true t.looks × (t.picks ≡ []) × (t.spents ≡ node_of t row ∷ []) × (t.back ≡ None)
+IsAt sent entry peer t = (r : Request) × (row : ℕ) × (b : BackLink) × IsSent entry peer r row b t
 
 -- no reply is decided, and the request has come so far
 pub record IsUndecided (at : Stage) (entry : List ℕ) (peer : Ip) (t : Turn) : Type 0 where
@@ -146,6 +170,28 @@ abbrev pub IsDown : List ℕ → Ip → Turn → Type 0
 IsDown entry peer t = (r : Request) × (row : ℕ) × IsRouted entry peer r row t
     × HasLooked (node_of t row) false t.looks × (t.picks ≡ []) × (t.spents ≡ []) × (t.back ≡ None)
 
+-- the link failed before a whole reply head
+abbrev pub HasFailed : List ℕ → Ip → ℕ → Turn → Type 0
+HasFailed entry peer link t = (r : Request) × (row : ℕ) × (b : BackLink) × IsSent entry peer r row b t
+    × (b.link ≡ link) × (b.faults ≢ []) × HasNoReplyYet r.method (given b.events)
+
+-- what the link gave is no valid reply, whatever might follow, or it ended before there was one
+abbrev pub HasGivenNone : List ℕ → Ip → ℕ → Turn → Type 0
+HasGivenNone entry peer link t = (r : Request) × (row : ℕ) × (b : BackLink) × IsSent entry peer r row b t
+    × (b.link ≡ link) × (HasNoReply r.method (given b.events) ⊎ ((ends b.events ≢ []) × HasNoReplyYet r.method (given b.events)))
+
+-- the link gave this reply, and the client gets its head and as much of its content as came
+pub record PassesOn (r : Request) (b : BackLink) (t : Turn) : Type 0 where
+  pub answer : Reply
+  pub content : List ℕ
+  pub gave : HasReply r.method (given b.events) answer content
+  pub status : t.status ≡ answer.status
+  pub text : t.reply ≡ reply_text answer r.version (closes t) ++ content
+  pub all : t.whole ≡ true → IsWhole answer content
+
+abbrev pub IsPassed : List ℕ → Ip → Turn → Type 0
+IsPassed entry peer t = (r : Request) × (row : ℕ) × (b : BackLink) × IsSent entry peer r row b t × PassesOn r b t
+
 -- the server was up, and the draw at its node was refused
 abbrev pub IsSpent : List ℕ → Ip → ℕ → Turn → Type 0
 IsSpent entry peer node t = (r : Request) × (row : ℕ) × IsRouted entry peer r row t
@@ -153,7 +199,7 @@ IsSpent entry peer node t = (r : Request) × (row : ℕ) × IsRouted entry peer 
 
 -- each cause, with what shows it
 abbrev pub AnswersBy : Cause → List ℕ → Ip → Turn → Type 0
-AnswersBy Passed entry peer t = ⊥
+AnswersBy Passed entry peer t = IsPassed entry peer t
 AnswersBy Undecided entry peer t = (at : Stage) × IsUndecided at entry peer t
 AnswersBy (Head fault) entry peer t = (refusal t.ask ≡ Some (t.status, Head fault)) × AnswersOwn t.status t × IsUnrouted t
 AnswersBy HeadTooLarge entry peer t = (refusal t.ask ≡ Some (t.status, HeadTooLarge)) × AnswersOwn t.status t × IsUnrouted t
@@ -162,8 +208,8 @@ AnswersBy (Stopped place) entry peer t = ⊥
 AnswersBy BodyTooLarge entry peer t = ⊥
 AnswersBy NoChild entry peer t = IsDown entry peer t × AnswersOwn 503 t
 AnswersBy (Spent node) entry peer t = IsSpent entry peer node t × AnswersOwn 503 t
-AnswersBy (BackFailed link) entry peer t = ⊥
-AnswersBy (BackBad link) entry peer t = ⊥
+AnswersBy (BackFailed link) entry peer t = HasFailed entry peer link t × AnswersOwn 502 t
+AnswersBy (BackBad link) entry peer t = HasGivenNone entry peer link t × AnswersOwn 502 t
 AnswersBy (BackLate link base now) entry peer t = ⊥
 
 -- the request, its status, its cause and its reply belong together, for a client that came here from there
