@@ -1,6 +1,7 @@
 //! The reply head at the front of a buffer (RFC 9112 sections 2 to 5).
 ghost use Rattle.std.specs.Prelude.{◌↔◌, ◌<◌, length};
-ghost use Rattle.httparse.specs.Grammar.{NeverHasResponse, MayBecomeResponse};
+ghost use Rattle.httparse.specs.Grammar.{NeverHasResponse, HasNoResponse, MayBecomeResponse};
+ghost use Rattle.httparse.specs.Spans.{ResponseOverflows};
 ghost use Rattle.head_view.specs.Lines.{line_feeds};
 ghost use Rattle.head_view.specs.Replies.{IfWhole, IsWhole, OnPart, OnBad, OnTooMany, IsHeadWithin, AreHeadSpans, HasHead, FindsHead};
 
@@ -45,7 +46,10 @@ pub fn scan_reply(buf: &[u8], room: &mut [HeaderSpan]) -> ReplyScan
     ensures bad { OnBad result (NeverHasResponse buf.now) }
     ensures too_many { OnTooMany result
         ((¬ (HasHead (length room.old) buf.now)) × (length room.old < line_feeds buf.now)) }
+    // Whatever bytes follow, a head has more field lines than there is room.
+    ensures overflows { OnTooMany result (ResponseOverflows (length room.old) buf.now) }
     ensures part { OnPart result (MayBecomeResponse buf.now) }
+    ensures unfinished { OnPart result (HasNoResponse buf.now) }
 {
     match parse_response(buf, room) {
         Ok(Status::Complete(spans)) => ReplyScan::Whole(ReplySpans {

@@ -1,0 +1,4 @@
+pub mod Exchanges
+pub mod Forwarding
+pub mod Readings
+pub mod Replies
