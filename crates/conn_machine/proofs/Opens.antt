@@ -14,12 +14,14 @@ use Rattle.conversation.specs.Served.{of_last, notes_of, IsKept, EndHolds, end_n
 use Rattle.conversation.specs.Holding.{Told, told, Holds, Sound}
 use Rattle.conversation.proofs.Tellings.{told_happened, told_failed, told_stopped, sound_happened, sound_failed, sound_stopped, failures_more, stops_more}
 use Rattle.conversation.proofs.Holdings.{holds_came, holds_gave, holds_over, holds_took}
-use Rattle.conn_machine.specs.Parts.{Trail, TiedBy, AtStage, AtHead, AtPin, AtTurn, IsOpenAt}
+use Rattle.http_wire.specs.declared.message.Request.{Request as HttpRequest}
+use Rattle.http_wire.specs.declared.message.Reply.{Reply as HttpReply}
+use Rattle.conn_machine.specs.Parts.{Trail, TiedBy, AtStage, AtHead, AtPin, AtTurn, IsOpenAt, IsAimedAt, IsExchanging, Passing}
 use Rattle.conn_machine.specs.Reached.{Reached, Kept, Opened, PhaseHolds, ending_note, closed_by, trail_of, pending_of, Waits}
 use Rattle.conn_machine.specs.declared.parts.Client.{Client}
 use Rattle.conn_machine.specs.declared.parts.Current.{Current}
 use Rattle.conn_machine.specs.declared.parts.Stage.{Stage}
-use Rattle.conn_machine.specs.declared.parts.Stage.TheVariants.{Head, Pin, Route, Look, Walk, Dial, Exchange, Reply}
+use Rattle.conn_machine.specs.declared.parts.Stage.TheVariants.{Head, Pin, Route, Look, Down, Walk, Spent, Dial, Exchange, Reply}
 use Rattle.conn_machine.specs.declared.parts.Phase.{Phase}
 use Rattle.conn_machine.specs.declared.parts.Phase.TheVariants.{Open, Broken, Over}
 use Rattle.conn_machine.specs.declared.conn.Conn.{Conn}
@@ -113,15 +115,15 @@ turn_gave {m} {input} {rest} piece {input'} is h = record {
   holds = h.holds;
 }
 
-stage_gave : (at : Stage) (k : Client) (m : Current) (input pending : List ℕ) (last : Option Turn) (rest piece input' : List ℕ) → input' ≡ input ++ piece
-    → AtStage at k m input pending last rest → AtStage at k m input' pending last (rest ++ piece)
-stage_gave Head k m input pending last rest piece input' is h = record {
+stage_gave : (at : Stage) (k : Client) (m : Current) (input pending : List ℕ) (done : List Turn) (last : Option Turn) (rest piece input' : List ℕ) → input' ≡ input ++ piece
+    → AtStage at k m input pending done last rest → AtStage at k m input' pending done last (rest ++ piece)
+stage_gave Head k m input pending done last rest piece input' is h = record {
   last_is = h.last_is;
   unpinned = h.unpinned;
   rest_is = ap (λ (l : List ℕ). l ++ piece) h.rest_is ∙ sym is;
   none = h.none;
 }
-stage_gave Pin k m input pending last rest piece input' is h = record {
+stage_gave Pin k m input pending done last rest piece input' is h = record {
   last_is = h.last_is;
   unpinned = h.unpinned;
   rest_is = ap (λ (l : List ℕ). l ++ piece) h.rest_is ∙ sym is;
@@ -131,12 +133,14 @@ stage_gave Pin k m input pending last rest piece input' is h = record {
   item = subst (λ (l : List ℕ). IsItem k.peer l h.ask) (sym (ap (λ (l : List ℕ). take m.size l) is ∙ take-append-le m.size input piece h.fits)) h.item;
   asked = h.asked;
 }
-stage_gave Route k m input pending last rest piece input' is h = turn_gave piece is h
-stage_gave Look k m input pending last rest piece input' is h = turn_gave piece is h
-stage_gave Walk k m input pending last rest piece input' is h = turn_gave piece is h
-stage_gave Dial k m input pending last rest piece input' is h = turn_gave piece is h
-stage_gave Exchange k m input pending last rest piece input' is h = h
-stage_gave Reply k m input pending last rest piece input' is h = turn_gave piece is h
+stage_gave Route k m input pending done last rest piece input' is h = turn_gave piece is h
+stage_gave Look k m input pending done last rest piece input' is h = turn_gave piece is h
+stage_gave Walk k m input pending done last rest piece input' is h = turn_gave piece is h
+stage_gave Dial k m input pending done last rest piece input' is h = turn_gave piece is h
+stage_gave Exchange k m input pending done last rest piece input' is h = turn_gave piece is h
+stage_gave Down k m input pending done last rest piece input' is h = turn_gave piece is h
+stage_gave Spent k m input pending done last rest piece input' is h = turn_gave piece is h
+stage_gave Reply k m input pending done last rest piece input' is h = turn_gave piece is h
 
 pub opened_gave : {steps : List Step} {k : Client} {m : Current} {trail : Trail} {input pending : List ℕ} {waiting : List Note} {over : Bool} {at : Stage} (piece : List ℕ) {input' : List ℕ}
     → input' ≡ input ++ piece → Opened steps k m trail input pending waiting over at
@@ -149,7 +153,7 @@ opened_gave {steps} {k} {m} {input} {pending} {at} piece {input'} is o = record 
   sound = sound_happened k.link steps (gave piece) k.entry k.peer o.done o.last o.holds.arrived o.sound;
   tied = o.tied;
   kept = o.kept;
-  stage = stage_gave at k m input pending o.last o.rest piece input' is o.stage;
+  stage = stage_gave at k m input pending o.done o.last o.rest piece input' is o.stage;
 }
 
 pub opened_over : {steps : List Step} {k : Client} {m : Current} {trail : Trail} {input pending : List ℕ} {waiting : List Note} {over : Bool} {at : Stage}
@@ -177,22 +181,31 @@ drop_add zero n xs = let e : zero + n ≡ n = omega arith in ap (λ (k : ℕ). d
 drop_add (suc a) n [] = nothing_left (suc a + n) ∙ sym (nothing_left n)
 drop_add (suc a) n (x ∷ xs) = let e : suc a + n ≡ suc (a + n) = omega arith in ap (λ (k : ℕ). drop k (x ∷ xs)) e ∙ drop_add a n xs
 
+-- the same request at another fact
+pub turn_as : {m : Current} {input : List ℕ} {last : Option Turn} {rest : List ℕ} {P Q : Turn → Type 0} (h : AtTurn m input last rest P) → Q h.turn → AtTurn m input last rest Q
+turn_as h q = record { turn = h.turn; last_is = h.last_is; pinned = h.pinned; rest_is = h.rest_is; fits = h.fits; asked = h.asked; holds = q }
+
 open_took : {m : Current} {entry : List ℕ} {peer : Ip} {input pending : List ℕ} {last : Option Turn} {rest : List ℕ} {at : TurnStage} (n : ℕ) {pending' : List ℕ} → pending' ≡ drop n pending
     → AtTurn m input last rest (IsOpenAt entry peer m pending at) → AtTurn m input last rest (IsOpenAt entry peer m pending' at)
-open_took {pending} n {pending'} is h = record {
-  turn = h.turn;
-  last_is = h.last_is;
-  pinned = h.pinned;
-  rest_is = h.rest_is;
-  fits = h.fits;
-  asked = h.asked;
-  holds = record { undecided = h.holds.undecided; plan = h.holds.plan; none = drop_none n pending pending' h.holds.none is };
-}
+open_took {pending} n {pending'} is h = turn_as h (record { undecided = h.holds.undecided; plan = h.holds.plan; none = drop_none n pending pending' h.holds.none is })
 
-stage_took : (at : Stage) (k : Client) (m : Current) (input pending : List ℕ) (last : Option Turn) (rest : List ℕ) (n : ℕ) (pending' : List ℕ) → pending' ≡ drop n pending
-    → AtStage at k m input pending last rest → AtStage at k m input pending' last rest
-stage_took Head k m input pending last rest n pending' is h = record { last_is = h.last_is; unpinned = h.unpinned; rest_is = h.rest_is; none = drop_none n pending pending' h.none is }
-stage_took Pin k m input pending last rest n pending' is h = record {
+aimed_took : {m : Current} {entry : List ℕ} {peer : Ip} {input pending : List ℕ} {last : Option Turn} {rest : List ℕ} {at : TurnStage} (n : ℕ) {pending' : List ℕ} → pending' ≡ drop n pending
+    → AtTurn m input last rest (IsAimedAt entry peer m pending at) → AtTurn m input last rest (IsAimedAt entry peer m pending' at)
+aimed_took {pending} n {pending'} is h = turn_as h (record {
+  open_at = record { undecided = h.holds.open_at.undecided; plan = h.holds.open_at.plan; none = drop_none n pending pending' h.holds.open_at.none is };
+  aim = h.holds.aim;
+  aim_is = h.holds.aim_is;
+  aims = h.holds.aims;
+})
+
+passing_took : (o : Option HttpReply) (r : HttpRequest) (t : Turn) (content : List ℕ) (n : ℕ) (pending pending' : List ℕ) → pending' ≡ drop n pending → Passing o r t content pending → Passing o r t content pending'
+passing_took None r t content n pending pending' is h = (h.0, h.1, h.2, h.3, drop_none n pending pending' h.4 is)
+passing_took (Some a) r t content n pending pending' is h = h
+
+stage_took : (at : Stage) (k : Client) (m : Current) (input pending : List ℕ) (done : List Turn) (last : Option Turn) (rest : List ℕ) (n : ℕ) (pending' : List ℕ) → pending' ≡ drop n pending
+    → AtStage at k m input pending done last rest → AtStage at k m input pending' done last rest
+stage_took Head k m input pending done last rest n pending' is h = record { last_is = h.last_is; unpinned = h.unpinned; rest_is = h.rest_is; none = drop_none n pending pending' h.none is }
+stage_took Pin k m input pending done last rest n pending' is h = record {
   last_is = h.last_is;
   unpinned = h.unpinned;
   rest_is = h.rest_is;
@@ -202,12 +215,30 @@ stage_took Pin k m input pending last rest n pending' is h = record {
   item = h.item;
   asked = h.asked;
 }
-stage_took Route k m input pending last rest n pending' is h = open_took n is h
-stage_took Look k m input pending last rest n pending' is h = open_took n is h
-stage_took Walk k m input pending last rest n pending' is h = open_took n is h
-stage_took Dial k m input pending last rest n pending' is h = open_took n is h
-stage_took Exchange k m input pending last rest n pending' is h = h
-stage_took Reply k m input pending last rest n pending' is h = h
+stage_took Route k m input pending done last rest n pending' is h = open_took n is h
+stage_took Look k m input pending done last rest n pending' is h = aimed_took n is h
+stage_took Walk k m input pending done last rest n pending' is h = aimed_took n is h
+stage_took Dial k m input pending done last rest n pending' is h = aimed_took n is h
+stage_took Exchange k m input pending done last rest n pending' is h = turn_as h (record {
+  back = h.holds.back;
+  back_is = h.holds.back_is;
+  r = h.holds.r;
+  row = h.holds.row;
+  link = h.holds.link;
+  sent = h.holds.sent;
+  number = h.holds.number;
+  content = h.holds.content;
+  ended = h.holds.ended;
+  failed = h.holds.failed;
+  exchanged = h.holds.exchanged;
+  ends_is = h.holds.ends_is;
+  fails_is = h.holds.fails_is;
+  passing = passing_took h.holds.back.reply h.holds.r h.turn h.holds.content n pending pending' is h.holds.passing;
+  apart = h.holds.apart;
+})
+stage_took Down k m input pending done last rest n pending' is h = aimed_took n is h
+stage_took Spent k m input pending done last rest n pending' is h = aimed_took n is h
+stage_took Reply k m input pending done last rest n pending' is h = h
 
 pub opened_took : {steps : List Step} {k : Client} {m : Current} {trail : Trail} {input pending : List ℕ} {waiting : List Note} {over : Bool} {at : Stage} (n : ℕ) {pending' : List ℕ}
     → pending' ≡ drop n pending → Opened steps k m trail input pending waiting over at
@@ -220,7 +251,7 @@ opened_took {steps} {k} {m} {input} {pending} {at} n {pending'} is o = record {
   sound = sound_happened k.link steps (took (take n pending)) k.entry k.peer o.done o.last o.holds.arrived o.sound;
   tied = o.tied;
   kept = o.kept;
-  stage = stage_took at k m input pending o.last o.rest n pending' is o.stage;
+  stage = stage_took at k m input pending o.done o.last o.rest n pending' is o.stage;
 }
 
 -- the client's link failed, or a stop came: nothing else changes

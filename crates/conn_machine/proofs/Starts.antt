@@ -142,7 +142,7 @@ reached_reserved {steps} {c} input looks picks backs notes i l p b n r = record 
 
     by : (q : Phase) → PhaseHolds q steps c r.done r.last r.rest r.left r.kept.next
         → PhaseHolds q steps (record c { input = input; looks = looks; picks = picks; backs = backs; notes = notes }) r.done r.last r.rest r.left r.kept.next
-    by Open h = (h.0, h.1, h.2, subst (λ (x : List ℕ). AtStage c.stage c.client c.current x (pending_of c) r.last r.rest) (sym i) h.3)
+    by Open h = (h.0, h.1, h.2, subst (λ (x : List ℕ). AtStage c.stage c.client c.current x (pending_of c) r.done r.last r.rest) (sym i) h.3)
     by Broken h = tt
     by (Over cause) h = h
     by (Told cause) h = h

@@ -24,16 +24,17 @@ use Rattle.conversation.specs.Served.{of_last, notes_of, IfLast, IsKept, EndHold
 use Rattle.conversation.specs.Holding.{told, Holds, Sound}
 use Rattle.conversation.proofs.Tellings.{told_pinned, sound_pinned}
 use Rattle.conversation.proofs.Holdings.{all_both, cut_at, holds_pinned, holds_replied, holds_done, fresh_turn}
-use Rattle.conn_machine.specs.Parts.{Trail, Tied, TiedBy, Fits, refused_status, IsRoute, issue_plan, end_by, note_by, AtStage, AtPin, AtTurn, IsOpenAt}
+use Rattle.conn_machine.specs.Parts.{Trail, Tied, TiedBy, Fits, refused_status, IsRoute, issue_plan, end_by, note_by, AtStage, AtPin, AtTurn, IsAim, IsOpenAt, IsAimedAt}
 use Rattle.conn_machine.specs.Reached.{Reached, Opened, PhaseHolds, ending_note, closed_by, trail_of, pending_of}
 use Rattle.conn_machine.specs.declared.pins.Routed.{Routed}
 use Rattle.conn_machine.specs.declared.pins.Routed.TheVariants as route
 use Rattle.conn_machine.specs.declared.parts.Asked.{Asked}
 use Rattle.conn_machine.specs.declared.parts.Asked.TheVariants.{Nothing, Request, Refused}
+use Rattle.conn_machine.specs.declared.parts.Aim.{Aim}
 use Rattle.conn_machine.specs.declared.parts.Client.{Client}
 use Rattle.conn_machine.specs.declared.parts.Current.{Current}
 use Rattle.conn_machine.specs.declared.parts.Stage.{Stage}
-use Rattle.conn_machine.specs.declared.parts.Stage.TheVariants.{Head, Pin, Route, Look, Walk, Dial, Exchange, Reply}
+use Rattle.conn_machine.specs.declared.parts.Stage.TheVariants.{Head, Pin, Route, Look, Down, Walk, Spent as SpentStage, Dial, Exchange, Reply}
 use Rattle.conn_machine.specs.declared.parts.Phase.{Phase}
 use Rattle.conn_machine.specs.declared.parts.Phase.TheVariants.{Open, Broken, Over}
 use Rattle.conn_machine.specs.declared.conn.Conn.{Conn}
@@ -76,7 +77,7 @@ at_turn : {steps : List Step} {k : Client} {m : Current} {trail : Trail} {input 
 at_turn t = record { turn = t.turn; last_is = refl; pinned = t.pinned; rest_is = t.rest_is; fits = t.fits; asked = t.asked; holds = t.has }
 
 opened_turn : {steps : List Step} {k : Client} {m : Current} {trail : Trail} {input pending : List ℕ} {waiting : List Note} {over : Bool} {P : Turn → Type 0} (at : Stage)
-    (t : Turning steps k m trail input pending waiting over P) → AtStage at k m input pending (Some t.turn) t.rest
+    (t : Turning steps k m trail input pending waiting over P) → AtStage at k m input pending t.done (Some t.turn) t.rest
     → Opened steps k m trail input pending waiting over at
 opened_turn {k} {m} {trail} at t stage = record {
   done = t.done;
@@ -167,12 +168,12 @@ same_plan : (o : Option Plan) (p q : Plan) → o ≡ Some p → o ≡ Some q →
 same_plan o p q a b = cc
 
 -- the router in this row won
-pub opened_won : {steps : List Step} {k : Client} {m : Current} {trail : Trail} {input pending : List ℕ} {waiting : List Note} {over : Bool} (row : ℕ) {m' : Current}
-    → IsAlike m m' → m'.router ≡ Some row → m'.status ≡ m.status → m'.cause ≡ m.cause
-    → IsRoute k.entry k.peer m.asked (issue_plan m.issue) (route.Won row)
+pub opened_won : {steps : List Step} {k : Client} {m : Current} {trail : Trail} {input pending : List ℕ} {waiting : List Note} {over : Bool} (row : ℕ) (aim : Aim) {m' : Current}
+    → IsAlike m m' → m'.router ≡ Some row → m'.status ≡ m.status → m'.cause ≡ m.cause → m'.aim ≡ Some aim
+    → IsRoute k.entry k.peer m.asked (issue_plan m.issue) (route.Won row aim)
     → Opened steps k m trail input pending waiting over Route
     → Opened steps k m' trail input pending waiting over Look
-opened_won {steps} {k} {m} {trail} {input} {pending} {waiting} {over} row {m'} alike router status cause won o =
+opened_won {steps} {k} {m} {trail} {input} {pending} {waiting} {over} row aim {m'} alike router status cause aim_is won o =
     let t : Turning steps k m trail input pending waiting over (IsOpenAt k.entry k.peer m pending unrouted) = turning o o.stage in
     let u : Turn = t.turn in
     let v : Turn = record u { router = Some row } in
@@ -186,7 +187,7 @@ opened_won {steps} {k} {m} {trail} {input} {pending} {waiting} {over} row {m'} a
       reply = t.has.undecided.reply;
       unfinished = t.has.undecided.unfinished;
     } in
-    let w : Turning steps k m' trail input pending waiting over (IsOpenAt k.entry k.peer m' pending routed) = record {
+    let w : Turning steps k m' trail input pending waiting over (IsAimedAt k.entry k.peer m' pending routed) = record {
       done = t.done;
       turn = v;
       rest = t.rest;
@@ -208,7 +209,12 @@ opened_won {steps} {k} {m} {trail} {input} {pending} {waiting} {over} row {m'} a
       rest_is = t.rest_is ∙ ap (λ (n : ℕ). drop n input) (sym alike.size);
       fits = subst (λ (n : ℕ). n ≤ length input) (sym alike.size) t.fits;
       asked = subst (λ (a : Asked). Fits a v.ask) (sym alike.asked) t.asked;
-      has = record { undecided = undecided; plan = ap issue_plan alike.issue ∙ t.has.plan; none = t.has.none };
+      has = record {
+        open_at = record { undecided = undecided; plan = ap issue_plan alike.issue ∙ t.has.plan; none = t.has.none };
+        aim = aim;
+        aim_is = aim_is;
+        aims = λ (x : ℕ) (e : Some row ≡ Some x). let same : row ≡ x = cc in subst (λ (y : ℕ). IsAim aim (u.plan.target y)) same (subst (λ (p : Plan). IsAim aim (p.target row)) plan won.5);
+      };
     } in
     opened_turn Look w (at_turn w)
 
@@ -437,7 +443,7 @@ reached_on {steps} {c} d is at index h none end o =
       sound = left_sound h t;
       tied = unpinned_tied d.current.pinned d.current (trail_of d) h.unpinned;
       kept = all_both IsKept t.done (t.turn ∷ []) t.kept (kept, tt);
-      stage = subst (λ (s : Stage). AtStage s d.client d.current d.input.items (pending_of d) None d.input.items) (sym at) (record { last_is = refl; unpinned = h.unpinned; rest_is = refl; none = h.none });
+      stage = subst (λ (s : Stage). AtStage s d.client d.current d.input.items (pending_of d) (t.done ++ t.turn ∷ []) None d.input.items) (sym at) (record { last_is = refl; unpinned = h.unpinned; rest_is = refl; none = h.none });
     })
 
 -- the connection ends

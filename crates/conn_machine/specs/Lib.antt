@@ -1,3 +1,2 @@
-pub mod Generations
 pub mod Parts
 pub mod Reached

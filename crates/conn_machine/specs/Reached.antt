@@ -12,6 +12,7 @@ use Rattle.conversation.specs.Turns.{Turn}
 use Rattle.conversation.specs.Served.{of_last, notes_of, IsKept, EndHolds, end_note}
 use Rattle.conversation.specs.Holding.{told, Holds, Sound}
 use Rattle.conn_machine.specs.Parts.{Trail, TiedBy, AtStage}
+use Rattle.conn_machine.specs.declared.parts.Aim.{Aim}
 use Rattle.conn_machine.specs.declared.parts.Client.{Client}
 use Rattle.conn_machine.specs.declared.parts.Current.{Current}
 use Rattle.conn_machine.specs.declared.parts.Stage.{Stage}
@@ -53,13 +54,13 @@ pub record Opened (steps : List Step) (k : Client) (m : Current) (trail : Trail)
   pub sound : Sound steps k.entry k.peer done last
   pub tied : TiedBy m.pinned m trail last
   pub kept : AllByRecursion IsKept done
-  pub stage : AtStage at k m input pending last rest
+  pub stage : AtStage at k m input pending done last rest
 
 -- While it is open the machine stores what was read and not answered, and what of the replies was not taken. Broken it
 -- may not.
 abbrev pub PhaseHolds : Phase → List Step → Conn → List Turn → Option Turn → (rest left : List ℕ) → (next : ℕ) → Type 0
 PhaseHolds Open steps c done last rest left next =
-    (next ≡ c.current.index) × (left ≡ pending_of c) × AllByRecursion IsKept done × AtStage c.stage c.client c.current c.input.items (pending_of c) last rest
+    (next ≡ c.current.index) × (left ≡ pending_of c) × AllByRecursion IsKept done × AtStage c.stage c.client c.current c.input.items (pending_of c) done last rest
 PhaseHolds Broken steps c done last rest left next = Unit {0}
 PhaseHolds (Over cause) steps c done last rest left next =
     EndHolds cause (history c.client.link steps) done last rest left (failures c.client.link steps ≢ []) (stops steps ≢ [])
@@ -88,6 +89,14 @@ IsOpen c = c.phase ≡ Open
 pub record Waits (at : Stage) (c : Conn) : Type 0 where
   pub phase : c.phase ≡ Open
   pub stage : c.stage ≡ at
+
+-- it waits at one of these stages
+abbrev pub WaitsIn : Stage → Stage → Conn → Type 0
+WaitsIn at or c = Waits at c ⊎ Waits or c
+
+-- it looks and draws at this node
+abbrev pub WantsNode : Conn → ℕ → Type 0
+WantsNode c node = (a : Aim) → c.current.aim ≡ Some a → node ≡ a.node
 
 -- it waits at this stage, or ends
 abbrev pub WaitsOver : Stage → Conn → Type 0

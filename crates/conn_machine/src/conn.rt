@@ -4,7 +4,6 @@ ghost use Rattle.link_world.specs.Log.{came, gave, gave_end};
 ghost use Rattle.conversation.specs.Steps.{Step, happened, failed, stopped};
 ghost use Rattle.conn_machine.specs.Reached.{Reached, IsOpen, Waits, HasRoom, IsEnding, IsGoing, trail_of, pending_of};
 
-use crate::generation::Generation;
 use crate::heads::{Found, read_head};
 use crate::parts::{Asked, Client, Current, Phase, Stage};
 use ip_net::Ip;
@@ -52,6 +51,9 @@ impl Conn {
                 router: None,
                 status: 0,
                 cause: Cause::Undecided,
+                aim: None,
+                back: None,
+                link: 0,
             },
             looks: Vec::new(alloc),
             picks: Vec::new(alloc),

@@ -2,14 +2,15 @@
 #![tactic(auto)]
 
 mod conn;
-mod generation;
+
 mod heads;
 mod notes;
 mod own;
 mod parts;
 mod pins;
+
 mod replies;
+mod walks;
 
 pub use conn::Conn;
-pub use generation::Generation;
-pub use parts::{Asked, Client, Current, Phase, Stage};
+pub use parts::{Aim, Asked, Client, Current, Phase, Stage};

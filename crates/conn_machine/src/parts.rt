@@ -1,5 +1,6 @@
 //! The parts of a connection's machine.
-use crate::generation::Generation;
+use back_machine::{Back, Server};
+use generation::Generation;
 use http_wire::Request;
 use ip_net::Ip;
 use link_world::{Cause, EndCause};
@@ -24,6 +25,14 @@ pub enum Asked {
     Refused(Cause),
 }
 
+/// Where a request goes: the one server of a balancer.
+#[derive(Debug, Drop)]
+pub struct Aim {
+    pub node: u32,
+    pub server: Server,
+    pub pass_host: bool,
+}
+
 /// The current request: what it asks for, the length of its head, and what its note will say.
 #[derive(Drop)]
 pub struct Current {
@@ -38,6 +47,10 @@ pub struct Current {
     pub router: Option<u32>,
     pub status: u16,
     pub cause: Cause,
+    pub aim: Option<Aim>,
+    pub back: Option<Back>,
+    /// The link that was dialled for it.
+    pub link: u32,
 }
 
 /// What a connection waits for.
@@ -51,8 +64,12 @@ pub enum Stage {
     Route,
     /// Which servers are up.
     Look,
+    /// Nothing: its server is down.
+    Down,
     /// A pick.
     Walk,
+    /// Nothing: its draw was refused.
+    Spent,
     /// A link to the server.
     Dial,
     /// The server.

@@ -3,30 +3,31 @@ ghost use Rattle.http_wire.specs.Own.{is_own_error};
 ghost use Rattle.std.specs.Prelude.{IsTrue, ◌≡◌, ◌≤◌, ◌++◌, ◌∷◌, [], List, ℕ, None, Some, IfOk, OnOk, IfSome, is_some};
 ghost use Rattle.std.specs.Arc.{arc_value};
 ghost use Rattle.conversation.specs.Steps.{Step, pinned};
-ghost use Rattle.conn_machine.specs.Generations.{plan_of};
-ghost use Rattle.conn_machine.specs.Parts.{end_by, refused_status, IsRoute, issue_plan};
+ghost use Rattle.generation.specs.Meaning.{plan_of, aim_of};
+ghost use Rattle.conn_machine.specs.Parts.{end_by, refused_status, IsRoute, IsAim, issue_plan};
 ghost use Rattle.conn_machine.specs.Reached.{Reached, IsOpen, IsGoing, Waits};
 
 use crate::conn::Conn;
-use crate::generation::Generation;
 use crate::own::own_text;
-use crate::parts::{Asked, Current, Phase, Stage};
+use crate::parts::{Aim, Asked, Current, Phase, Stage};
+use back_machine::Server;
+use generation::{Generation, Target};
 use ip_net::Ip;
 use link_world::{Cause, EndCause, HeadName};
-use px_base::Memory;
+use px_base::{Bytes, Memory};
 use std::alloc::{AllocError, Global};
 use std::sync::Arc;
 
 /// What is made of a request before a server is looked for.
-#[derive(Clone, Copy, Debug, PartialEq, Eq)]
+#[derive(Debug, Drop)]
 pub enum Routed {
     Unknown,
     /// It is refused for this cause.
     Refused(Cause),
     /// No router wins it.
     Lost,
-    /// The router in this row wins it.
-    Won(u32),
+    /// The router in this row wins it, and leads there.
+    Won(u32, Aim),
 }
 
 impl Conn {
@@ -102,8 +103,9 @@ impl Conn {
                 self.stage = Stage::Reply;
                 self.phase = Phase::Open;
             }
-            Routed::Won(row) => {
+            Routed::Won(row, aim) => {
                 self.current.router = Some(row);
+                self.current.aim = Some(aim);
                 self.stage = Stage::Look;
                 self.phase = Phase::Open;
             }
@@ -127,11 +129,29 @@ fn find_route(
         Asked::Request(request) => match &current.issue {
             None => Ok(Routed::Unknown),
             Some(issue) => match issue.winner(alloc, entry, request, peer)? {
-                Some(row) => Ok(Routed::Won(row)),
+                Some(row) => match issue.target(row) {
+                    Some(target) => Ok(Routed::Won(row, aim_at(alloc, target)?)),
+                    None => Err(AllocError),
+                },
                 None => Ok(Routed::Lost),
             },
         },
     }
+}
+
+fn aim_at(alloc: Global, target: &Target) -> Result<Aim, Memory>
+    ensures { IfOk result (λ a. IsAim a (aim_of target.now)) }
+{
+    let host = Bytes::from_slice(alloc, target.host.as_slice())?;
+    Ok(Aim {
+        node: target.node,
+        server: Server {
+            host,
+            port: target.port,
+            weight: 1,
+        },
+        pass_host: target.pass_host,
+    })
 }
 
 /// Why the connection ends after the reply to the current request.

@@ -89,6 +89,7 @@ impl Conn {
         self.current.asked = Asked::Nothing;
         self.current.size = 0;
         self.current.issue = None;
+        self.current.back = None;
         self.current.pinned = false;
         self.stage = Stage::Head;
         match end {

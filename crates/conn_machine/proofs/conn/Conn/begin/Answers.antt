@@ -1,7 +1,7 @@
 use Rattle.std.proofs.Common.{refl, ap, ◌∙◌}
 use Rattle.std.specs.Arc.{arc_value}
-use Rattle.conn_machine.specs.Generations.{plan_of}
-use Rattle.conn_machine.specs.declared.generation.Generation.{Generation}
+use Rattle.generation.specs.Meaning.{plan_of}
+use Rattle.generation.specs.declared.generation.Generation.{Generation}
 use Rattle.conn_machine.proofs.Opens.{opened_at, reached_open}
 use Rattle.conn_machine.proofs.Turnings.{opened_pinned}
 use Rattle.conn_machine.proofs.conn.Conn.begin.Goals as goal

@@ -27,7 +27,7 @@ returns-in_ok-own_text-in-Lost-clause-reached c = λ steps r.
 
 pub returns-in-Won-clause-reached : goal.returns-in-Won-clause-reached
 returns-in-Won-clause-reached c = λ steps r.
-    reached_open _ refl (opened_won c.in-Won.row
-    (record { asked = refl; size = refl; issue = refl; pinned = refl; index = refl; number = refl }) refl refl refl
-    (route_at c.as_slice.result.now c.args.self.now.client.entry c.args.self.now.client.peer c.args.self.now.current c.in_ok-routed.routed (route.Won c.in-Won.row) c.as_slice.ensures c.in-Won.is c.in_ok-routed.ensures)
+    reached_open _ refl (opened_won c.in-Won.row c.in-Won.aim
+    (record { asked = refl; size = refl; issue = refl; pinned = refl; index = refl; number = refl }) refl refl refl refl
+    (route_at c.as_slice.result.now c.args.self.now.client.entry c.args.self.now.client.peer c.args.self.now.current c.in_ok-routed.routed (route.Won c.in-Won.row c.in-Won.aim) c.as_slice.ensures c.in-Won.is c.in_ok-routed.ensures)
     (opened_at c.requires r))
