@@ -3,3 +3,4 @@ pub mod Opens
 pub mod Starts
 pub mod Turnings
 pub mod Tells
+pub mod Walkings

@@ -72,11 +72,11 @@ turning {steps} {k} {m} {trail} o h = record {
   has = h.holds;
 }
 
-at_turn : {steps : List Step} {k : Client} {m : Current} {trail : Trail} {input pending : List ℕ} {waiting : List Note} {over : Bool} {P : Turn → Type 0}
+pub at_turn : {steps : List Step} {k : Client} {m : Current} {trail : Trail} {input pending : List ℕ} {waiting : List Note} {over : Bool} {P : Turn → Type 0}
     (t : Turning steps k m trail input pending waiting over P) → AtTurn m input (Some t.turn) t.rest P
 at_turn t = record { turn = t.turn; last_is = refl; pinned = t.pinned; rest_is = t.rest_is; fits = t.fits; asked = t.asked; holds = t.has }
 
-opened_turn : {steps : List Step} {k : Client} {m : Current} {trail : Trail} {input pending : List ℕ} {waiting : List Note} {over : Bool} {P : Turn → Type 0} (at : Stage)
+pub opened_turn : {steps : List Step} {k : Client} {m : Current} {trail : Trail} {input pending : List ℕ} {waiting : List Note} {over : Bool} {P : Turn → Type 0} (at : Stage)
     (t : Turning steps k m trail input pending waiting over P) → AtStage at k m input pending t.done (Some t.turn) t.rest
     → Opened steps k m trail input pending waiting over at
 opened_turn {k} {m} {trail} at t stage = record {

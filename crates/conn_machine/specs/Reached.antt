@@ -19,6 +19,8 @@ use Rattle.conn_machine.specs.declared.parts.Stage.{Stage}
 use Rattle.conn_machine.specs.declared.parts.Stage.TheVariants as stage
 use Rattle.conn_machine.specs.declared.parts.Phase.{Phase}
 use Rattle.conn_machine.specs.declared.parts.Phase.TheVariants.{Open, Broken, Over, Told}
+use Rattle.conn_machine.specs.declared.wants.Want.{Want}
+use Rattle.conn_machine.specs.declared.wants.Want.TheVariants as want
 use Rattle.conn_machine.specs.declared.conn.Conn.{Conn}
 
 abbrev pub ending_note : ℕ → Phase → List Note
@@ -101,6 +103,15 @@ WantsNode c node = (a : Aim) → c.current.aim ≡ Some a → node ≡ a.node
 -- it waits at this stage, or ends
 abbrev pub WaitsOver : Stage → Conn → Type 0
 WaitsOver at c = Waits at c ⊎ IsEnding c.phase
+
+-- what it waits for, and so which calls may come
+abbrev pub IsWant : Want → Conn → Type 0
+IsWant want.Bytes c = Waits stage.Head c
+IsWant want.Pin c = Waits stage.Pin c
+IsWant (want.Look node) c = Waits stage.Look c × WantsNode c node
+IsWant (want.Walk node) c = Waits stage.Walk c × WantsNode c node
+IsWant want.Links c = c.phase ≡ Open
+IsWant want.Ended c = c.phase ≢ Open
 
 -- there is room for a piece of this length, and for a note
 pub record HasRoom (n : ℕ) (c : Conn) : Type 0 where

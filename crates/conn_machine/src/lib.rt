@@ -11,6 +11,8 @@ mod pins;
 
 mod replies;
 mod walks;
+mod wants;
 
 pub use conn::Conn;
 pub use parts::{Aim, Asked, Client, Current, Phase, Stage};
+pub use wants::Want;
