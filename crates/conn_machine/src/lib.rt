@@ -2,14 +2,14 @@
 #![tactic(auto)]
 
 mod conn;
-
 mod heads;
 mod notes;
 mod own;
 mod parts;
 mod pins;
-
 mod replies;
+#[cfg(test)]
+mod tests;
 mod walks;
 mod wants;
 
