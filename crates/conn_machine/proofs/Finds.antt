@@ -1,0 +1,104 @@
+-- What a scan finds is a request, or one that is refused.
+use Rattle.std.proofs.Common.{◌≡◌, ◌⊎◌, inl, inr, ℕ, ◌+◌, ◌<◌, ◌≤◌, List, ◌++◌, length, take, drop, Result, Ok, Err, refl, sym, ◌∙◌, ap, subst, arith}
+use Rattle.std.proofs.lemmas.List.{append-nil, length-append, length-take}
+use Rattle.std.proofs.Math.Seq.{take-append_seam, take-length}
+use Rattle.httparse.specs.Grammar.{RequestHead, NeverHasRequest, print_request}
+use Rattle.httparse.specs.Spans.{span_bytes}
+use Rattle.httparse.specs.declared.spans.HeaderSpan.{HeaderSpan}
+use Rattle.ip_net.specs.declared.ip.Ip.{Ip}
+use Rattle.head_view.specs.Lines.{lines_at, line_feeds}
+use Rattle.head_view.specs.Scans.{AreHeadSpans, IsHeadAt, HasHead}
+use Rattle.head_view.specs.declared.scan.HeadSpans.{HeadSpans}
+use Rattle.http_wire.specs.Requests.{TakesRequest, IsHeadFault}
+use Rattle.http_wire.specs.declared.message.Request.{Request as HttpRequest}
+use Rattle.http_wire.specs.declared.requests.HeadFault.{HeadFault}
+use Rattle.http_wire.specs.declared.requests.HeadFault.TheVariants as fault
+use Rattle.http_wire.specs.declared.requests.RequestRefused.{RequestRefused}
+use Rattle.http_wire.specs.declared.requests.RequestRefused.TheVariants as refused
+use Rattle.link_world.specs.declared.note.Cause.TheVariants as causes
+use Rattle.link_world.specs.declared.note.HeadName.TheVariants as name
+use Rattle.conversation.specs.Asks.{asks, faulty, unserved, broken, large, IsHead, IsServed, IsItem, Makes, fields_of, name_of}
+use Rattle.conn_machine.specs.Parts.{Fits, IsFound}
+use Rattle.conn_machine.specs.declared.parts.Asked.{Asked}
+use Rattle.conn_machine.specs.declared.parts.Asked.TheVariants.{Request, Refused}
+use Rattle.conn_machine.specs.declared.heads.Found.TheVariants as found
+
+-- the spans' bytes are a head
+is_head : (buf : List ℕ) (room : List HeaderSpan) (s : HeadSpans) (h : RequestHead) → IsHeadAt buf room s h → length h.fields ≤ 100 → length buf ≤ 16384
+    → IsHead (take s.len buf) h
+is_head buf room s h at few short = record {
+  reads = (at.reads.0, front ∙ sym (append-nil (print_request h)));
+  short = grind (arith, length-take s.len buf);
+  few = few;
+}
+  where
+    front : take s.len buf ≡ print_request h
+    front = ap (λ (n : ℕ). take n buf) at.len ∙ ap (λ (l : List ℕ). take (length (print_request h)) l) at.reads.1 ∙ take-append_seam (print_request h) (drop s.len buf)
+
+within : (buf : List ℕ) (room : List HeaderSpan) (s : HeadSpans) (h : RequestHead) → IsHeadAt buf room s h → s.len ≤ length buf
+within buf room s h at =
+    let e : length buf ≡ length (print_request h ++ drop s.len buf) = ap (length {A = ℕ}) at.reads.1 in
+    let l : length (print_request h ++ drop s.len buf) ≡ length (print_request h) + length (drop s.len buf) = length-append (print_request h) (drop s.len buf) in
+    let n : s.len ≡ length (print_request h) = at.len in
+    omega arith
+
+takes_at : (buf : List ℕ) (room : List HeaderSpan) (s : HeadSpans) (h : RequestHead) (peer : Ip) (r : Result HttpRequest RequestRefused) → IsHeadAt buf room s h
+    → TakesRequest (span_bytes buf s.method) (span_bytes buf s.target) s.version (lines_at buf (take s.lines room)) peer r
+    → TakesRequest h.method h.target h.minor (fields_of h) peer r
+takes_at buf room s h peer r at t = rw (← at.method, ← at.path, ← at.version, ← at.fields) t
+
+-- a request
+pub found_served : (buf : List ℕ) (room : List HeaderSpan) (s : HeadSpans) (peer : Ip) (r : HttpRequest) (asked : Asked)
+    → AreHeadSpans 100 buf room s → length buf ≤ 16384
+    → TakesRequest (span_bytes buf s.method) (span_bytes buf s.target) s.version (lines_at buf (take s.lines room)) peer (Ok r)
+    → (IsServed r × (asked ≡ Request r)) ⊎ ((¬ (IsServed r)) × (asked ≡ Refused (causes.Head name.BadCoding)))
+    → IsFound peer buf (found.Head asked s.len)
+found_served buf room s peer r asked spans short t which =
+    let h : RequestHead = spans.0 in
+    let item : IsHead (take s.len buf) h = is_head buf room s h spans.1 spans.2 short in
+    let makes : Makes peer h r = takes_at buf room s h peer (Ok r) spans.1 t in
+    elim which [
+      | inl yes_ ↦ (within buf room s h spans.1, asks r, (h, item, makes, yes_.0), subst (λ (a : Asked). Fits a (asks r)) (sym yes_.1) refl)
+      | inr no_ ↦ (within buf room s h spans.1, unserved r, (h, item, makes, no_.0), subst (λ (a : Asked). Fits a (unserved r)) (sym no_.1) refl)
+    ]
+
+fits_any : (f : HeadFault) → Fits (Refused (causes.Head (name_of f))) (faulty f)
+fits_any fault.BadHead = refl
+fits_any fault.NoHost = refl
+fits_any fault.TwoHosts = refl
+fits_any fault.BadLength = refl
+fits_any fault.BothLengths = refl
+fits_any fault.BadCoding = refl
+fits_any fault.BadTarget = refl
+fits_any fault.BadEscape = refl
+
+-- a head with a fault
+pub found_faulty : (buf : List ℕ) (room : List HeaderSpan) (s : HeadSpans) (peer : Ip) (e : RequestRefused) (f : HeadFault) (asked : Asked)
+    → AreHeadSpans 100 buf room s → length buf ≤ 16384
+    → TakesRequest (span_bytes buf s.method) (span_bytes buf s.target) s.version (lines_at buf (take s.lines room)) peer (Err e)
+    → e ≡ refused.Head f → asked ≡ Refused (causes.Head (name_of f))
+    → IsFound peer buf (found.Head asked s.len)
+found_faulty buf room s peer e f asked spans short t e_is is =
+    let h : RequestHead = spans.0 in
+    let item : IsHead (take s.len buf) h = is_head buf room s h spans.1 spans.2 short in
+    let fault_is : IsHeadFault h.method h.target h.minor (fields_of h) f = takes_at buf room s h peer (Err (refused.Head f)) spans.1 (subst (λ (x : RequestRefused). TakesRequest (span_bytes buf s.method) (span_bytes buf s.target) s.version (lines_at buf (take s.lines room)) peer (Err x)) e_is t) in
+    (within buf room s h spans.1, faulty f, (h, item, fault_is), subst (λ (a : Asked). Fits a (faulty f)) (sym is) (fits_any f))
+
+-- all of the bytes are refused
+whole : (buf : List ℕ) (P : List ℕ → Type 0) → P buf → P (take (length buf) buf)
+whole buf P h = subst P (sym (take-length buf)) h
+
+pub found_bad : (buf : List ℕ) (peer : Ip) (asked : Asked) (n : ℕ) → n ≡ length buf → asked ≡ Refused (causes.Head name.BadHead) → NeverHasRequest buf
+    → IsFound peer buf (found.Head asked n)
+found_bad buf peer asked n all is never =
+    subst (λ (m : ℕ). IsFound peer buf (found.Head asked m)) (sym all)
+    (omega arith, broken, whole buf (λ (l : List ℕ). IsItem peer l broken) never, subst (λ (a : Asked). Fits a broken) (sym is) refl)
+
+pub found_large : (buf : List ℕ) (peer : Ip) (n : ℕ) → n ≡ length buf → ¬ (HasHead 100 buf) → length buf ≤ 16384 → (16384 ≤ length buf) ⊎ (100 < line_feeds buf)
+    → IsFound peer buf (found.Head (Refused causes.HeadTooLarge) n)
+found_large buf peer n all none short why =
+    subst (λ (m : ℕ). IsFound peer buf (found.Head (Refused causes.HeadTooLarge) m)) (sym all)
+    (omega arith, large, whole buf (λ (l : List ℕ). IsItem peer l large) (none, short, full), refl)
+  where
+    full : (length buf ≡ 16384) ⊎ (100 < line_feeds buf)
+    full = elim why [ inl long ↦ inl (omega arith) | inr many ↦ inr many ]

@@ -1,0 +1,6 @@
+pub mod Finds
+pub mod Opens
+pub mod Starts
+pub mod Turnings
+pub mod Tells
+pub mod Walkings

@@ -1,0 +1,228 @@
+//! The machine of one client connection: what comes from its link.
+ghost use Rattle.std.specs.Prelude.{◌≡◌, ◌≤◌, ◌<◌, ◌+◌, ◌++◌, ◌∷◌, [], List, ℕ, length, take, false, IfOk, OnOk, OnErr, IsTrue, ◌↔◌, vec_len, vec_capacity};
+ghost use Rattle.link_world.specs.Log.{came, gave, gave_end};
+ghost use Rattle.conversation.specs.Steps.{Step, happened, failed, stopped};
+ghost use Rattle.conn_machine.specs.Reached.{Reached, IsOpen, Waits, HasRoom, IsEnding, IsGoing, trail_of, pending_of};
+
+use crate::heads::{Found, read_head};
+use crate::parts::{Asked, Client, Current, Phase, Stage};
+use ip_net::Ip;
+use link_world::{Cause, EndCause, Look, NodePick, Note};
+use px_base::{Bytes, Memory};
+use std::alloc::Global;
+
+/// A client connection, which is told in pieces what happens on its link.
+#[derive(Drop)]
+pub struct Conn {
+    pub client: Client,
+    pub input: Vec<u8>,
+    pub over: bool,
+    pub current: Current,
+    pub looks: Vec<Look>,
+    pub picks: Vec<NodePick>,
+    pub backs: Vec<u32>,
+    pub out: Vec<u8>,
+    pub sent: usize,
+    pub notes: Vec<Note>,
+    pub stage: Stage,
+    pub phase: Phase,
+}
+
+impl Conn {
+    /// A client came on this link at this entry point, from this address.
+    pub fn new(alloc: Global, link: u32, entry: &[u8], peer: Ip) -> Result<Conn, Memory>
+        ensures link { IfOk result (λ c. c.client.link ≡ link) }
+        ensures waits { IfOk result (Waits Stage.Head) }
+        ensures number { IfOk result (λ c. c.current.number ≡ 0) }
+        ensures reached { IfOk result (Reached (happened link (came entry.now peer) ∷ [])) }
+    {
+        let entry = Bytes::from_slice(alloc, entry)?;
+        Ok(Conn {
+            client: Client { link, entry, peer },
+            input: Vec::new(alloc),
+            over: false,
+            current: Current {
+                asked: Asked::Nothing,
+                size: 0,
+                issue: None,
+                pinned: false,
+                index: 1,
+                number: 0,
+                router: None,
+                status: 0,
+                cause: Cause::Undecided,
+                aim: None,
+                back: None,
+                link: 0,
+            },
+            looks: Vec::new(alloc),
+            picks: Vec::new(alloc),
+            backs: Vec::new(alloc),
+            out: Vec::new(alloc),
+            sent: 0,
+            notes: Vec::new(alloc),
+            stage: Stage::Head,
+            phase: Phase::Open,
+        })
+    }
+
+    /// Makes the room for a piece of `n` bytes, for a note and for what it says.
+    pub fn reserve(&mut self, n: usize) -> Result<(), Memory>
+        ensures client { self.new.client ≡ self.old.client }
+        ensures current { self.new.current ≡ self.old.current }
+        ensures phase { self.new.phase ≡ self.old.phase }
+        ensures stage { self.new.stage ≡ self.old.stage }
+        ensures input { self.new.input.items ≡ self.old.input.items }
+        ensures room { OnOk result (HasRoom n self.new) }
+        ensures reached { (steps : List Step) → Reached steps self.old → Reached steps self.new }
+    {
+        self.notes.reserve(1)?;
+        self.looks.reserve(1)?;
+        self.picks.reserve(1)?;
+        self.backs.reserve(1)?;
+        self.input.reserve(n)
+    }
+
+    /// Bytes of the client.
+    pub fn bytes(&mut self, alloc: Global, piece: &[u8]) -> Result<(), Memory>
+        requires open { IsOpen self.old }
+        requires room { vec_len self.old.input + length piece.now ≤ vec_capacity self.old.input }
+        ensures client { self.new.client ≡ self.old.client }
+        ensures going { OnOk result (IsGoing self.new.phase) }
+        ensures reached { (steps : List Step) → Reached steps self.old
+            → Reached (steps ++ happened self.old.client.link (gave piece.now) ∷ []) self.new }
+    {
+        self.feed(piece);
+        match self.stage {
+            Stage::Head => self.find_head(alloc),
+            _ => Ok(()),
+        }
+    }
+
+    fn feed(&mut self, piece: &[u8])
+        requires open { IsOpen self.old }
+        requires room { vec_len self.old.input + length piece.now ≤ vec_capacity self.old.input }
+        ensures client { self.new.client ≡ self.old.client }
+        ensures open { IsOpen self.new }
+        ensures stage { self.new.stage ≡ self.old.stage }
+        ensures reached { (steps : List Step) → Reached steps self.old
+            → Reached (steps ++ happened self.old.client.link (gave piece.now) ∷ []) self.new }
+    {
+        add_in_room(&mut self.input, piece);
+    }
+
+    /// The client's end.
+    pub fn end(&mut self, alloc: Global) -> Result<(), Memory>
+        requires { IsOpen self.old }
+        ensures client { self.new.client ≡ self.old.client }
+        ensures going { OnOk result (IsGoing self.new.phase) }
+        ensures reached { (steps : List Step) → Reached steps self.old
+            → Reached (steps ++ happened self.old.client.link gave_end ∷ []) self.new }
+    {
+        self.close();
+        match self.stage {
+            Stage::Head => self.find_head(alloc),
+            _ => Ok(()),
+        }
+    }
+
+    fn close(&mut self)
+        requires { IsOpen self.old }
+        ensures client { self.new.client ≡ self.old.client }
+        ensures open { IsOpen self.new }
+        ensures stage { self.new.stage ≡ self.old.stage }
+        ensures reached { (steps : List Step) → Reached steps self.old
+            → Reached (steps ++ happened self.old.client.link gave_end ∷ []) self.new }
+    {
+        self.over = true;
+    }
+
+    // Looks for the next request. Where the client has ended before it is whole, the connection ends.
+    pub(crate) fn find_head(&mut self, alloc: Global) -> Result<(), Memory>
+        requires { Waits Stage.Head self.old }
+        ensures client { self.new.client ≡ self.old.client }
+        ensures going { OnOk result (IsGoing self.new.phase) }
+        ensures number { self.new.current.number ≡ self.old.current.number }
+        ensures reached { (steps : List Step) → Reached steps self.old → Reached steps self.new }
+    {
+        self.phase = Phase::Broken;
+        let found = read_head(alloc, front(self.input.as_slice()), self.client.peer)?;
+        self.phase = Phase::Open;
+        match found {
+            Found::Part => {
+                if self.over {
+                    self.phase = Phase::Over(EndCause::Client);
+                }
+            }
+            Found::Head(asked, size) => {
+                self.current.asked = asked;
+                self.current.size = size;
+                self.stage = Stage::Pin;
+            }
+        }
+        Ok(())
+    }
+
+    /// The client's link failed.
+    pub fn fail(&mut self)
+        requires { IsOpen self.old }
+        ensures client { self.new.client ≡ self.old.client }
+        ensures over { self.new.phase ≡ Phase.Over EndCause.ClientFailed }
+        ensures reached { (steps : List Step) → Reached steps self.old
+            → Reached (steps ++ failed self.old.client.link ∷ []) self.new }
+    {
+        self.phase = Phase::Over(EndCause::ClientFailed);
+    }
+
+    /// A stop was asked for.
+    pub fn stop(&mut self)
+        requires { IsOpen self.old }
+        ensures client { self.new.client ≡ self.old.client }
+        ensures over { self.new.phase ≡ Phase.Over EndCause.Stopped }
+        ensures reached { (steps : List Step) → Reached steps self.old → Reached (steps ++ stopped ∷ []) self.new }
+    {
+        self.phase = Phase::Over(EndCause::Stopped);
+    }
+
+    /// A call for this connection found no memory. This takes none.
+    pub fn give_up(&mut self)
+        ensures client { self.new.client ≡ self.old.client }
+        ensures over { IsEnding self.new.phase }
+        ensures reached { (steps : List Step) → Reached steps self.old → Reached steps self.new }
+    {
+        match self.phase {
+            Phase::Open => self.phase = Phase::Over(EndCause::Memory),
+            Phase::Broken => self.phase = Phase::Over(EndCause::Memory),
+            Phase::Over(_) => {}
+            Phase::Told(_) => {}
+        }
+    }
+
+    /// Events may come.
+    pub fn is_open(&self) -> bool
+        ensures { IsTrue result ↔ IsOpen self.now }
+    {
+        matches!(self.phase, Phase::Open)
+    }
+}
+
+// As many of the bytes as a head may have.
+fn front(input: &[u8]) -> &[u8]
+    ensures front { result.now ≡ take 16384 input.now }
+    ensures short { length result.now ≤ 16384 }
+{
+    if input.len() <= 16384 {
+        input
+    } else {
+        &input[..16384]
+    }
+}
+
+fn add_in_room(out: &mut Vec<u8>, piece: &[u8])
+    requires { vec_len out.old + length piece.now ≤ vec_capacity out.old }
+    ensures { out.new.items ≡ out.old.items ++ piece.now }
+{
+    let Ok(()) = out.extend_from_slice(piece) else {
+        unreachable!()
+    };
+}

@@ -1,0 +1,18 @@
+//! The machine of one client connection.
+#![tactic(auto)]
+
+mod conn;
+mod heads;
+mod notes;
+mod own;
+mod parts;
+mod pins;
+mod replies;
+#[cfg(test)]
+mod tests;
+mod walks;
+mod wants;
+
+pub use conn::Conn;
+pub use parts::{Aim, Asked, Client, Current, Phase, Stage};
+pub use wants::Want;

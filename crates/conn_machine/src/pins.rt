@@ -1,0 +1,181 @@
+//! The machine of one client connection: how a request gets its configuration and its router.
+ghost use Rattle.http_wire.specs.Own.{is_own_error};
+ghost use Rattle.std.specs.Prelude.{IsTrue, ◌≡◌, ◌≤◌, ◌++◌, ◌∷◌, [], List, ℕ, None, Some, IfOk, OnOk, IfSome, is_some};
+ghost use Rattle.std.specs.Arc.{arc_value};
+ghost use Rattle.conversation.specs.Steps.{Step, pinned};
+ghost use Rattle.generation.specs.Meaning.{plan_of, aim_of};
+ghost use Rattle.conn_machine.specs.Parts.{end_by, refused_status, IsRoute, IsAim, issue_plan};
+ghost use Rattle.conn_machine.specs.Reached.{Reached, IsOpen, IsGoing, Waits};
+
+use crate::conn::Conn;
+use crate::own::own_text;
+use crate::parts::{Aim, Asked, Current, Phase, Stage};
+use back_machine::Server;
+use generation::{Generation, Target};
+use ip_net::Ip;
+use link_world::{Cause, EndCause, HeadName};
+use px_base::{Bytes, Memory};
+use std::alloc::{AllocError, Global};
+use std::sync::Arc;
+
+/// What is made of a request before a server is looked for.
+#[derive(Debug, Drop)]
+pub enum Routed {
+    Unknown,
+    /// It is refused for this cause.
+    Refused(Cause),
+    /// No router wins it.
+    Lost,
+    /// The router in this row wins it, and leads there.
+    Won(u32, Aim),
+}
+
+impl Conn {
+    /// The current request is answered by this configuration. Its pin is recorded whatever the answer.
+    pub fn pin(&mut self, alloc: Global, issue: Arc<Generation, Global>) -> Result<(), Memory>
+        requires waits { Waits Stage.Pin self.old }
+        requires rises { self.old.current.number ≤ (plan_of (arc_value issue)).number }
+        ensures client { self.new.client ≡ self.old.client }
+        ensures going { OnOk result (IsGoing self.new.phase) }
+        ensures number { self.new.current.number ≡ (plan_of (arc_value issue)).number }
+        ensures reached { (steps : List Step) → Reached steps self.old
+            → Reached (steps ++ pinned (plan_of (arc_value issue)) ∷ []) self.new }
+    {
+        self.begin(issue);
+        self.route(alloc)
+    }
+
+    fn begin(&mut self, issue: Arc<Generation, Global>)
+        requires waits { Waits Stage.Pin self.old }
+        requires rises { self.old.current.number ≤ (plan_of (arc_value issue)).number }
+        ensures client { self.new.client ≡ self.old.client }
+        ensures waits { Waits Stage.Route self.new }
+        ensures number { self.new.current.number ≡ (plan_of (arc_value issue)).number }
+        ensures reached { (steps : List Step) → Reached steps self.old
+            → Reached (steps ++ pinned (plan_of (arc_value issue)) ∷ []) self.new }
+    {
+        self.looks.clear();
+        self.picks.clear();
+        self.backs.clear();
+        self.current.number = issue.number();
+        self.current.issue = Some(issue);
+        self.current.pinned = true;
+        self.current.router = None;
+        self.current.status = 0;
+        self.current.cause = Cause::Undecided;
+        self.stage = Stage::Route;
+    }
+
+    // Finds the router of the request, or answers it.
+    fn route(&mut self, alloc: Global) -> Result<(), Memory>
+        requires { Waits Stage.Route self.old }
+        ensures client { self.new.client ≡ self.old.client }
+        ensures going { OnOk result (IsGoing self.new.phase) }
+        ensures number { self.new.current.number ≡ self.old.current.number }
+        ensures reached { (steps : List Step) → Reached steps self.old → Reached steps self.new }
+    {
+        self.phase = Phase::Broken;
+        let routed = find_route(
+            alloc,
+            &self.current,
+            self.client.entry.as_slice(),
+            self.client.peer,
+        )?;
+        let close = end_after(&self.current).is_some();
+        match routed {
+            Routed::Unknown => return Err(AllocError),
+            Routed::Refused(cause) => {
+                let status = refused_status(cause);
+                self.out.clear();
+                self.sent = 0;
+                own_text(alloc, status, close, &mut self.out)?;
+                self.current.status = status;
+                self.current.cause = cause;
+                self.stage = Stage::Reply;
+                self.phase = Phase::Open;
+            }
+            Routed::Lost => {
+                self.out.clear();
+                self.sent = 0;
+                own_text(alloc, 404, close, &mut self.out)?;
+                self.current.status = 404;
+                self.current.cause = Cause::NoRouter;
+                self.stage = Stage::Reply;
+                self.phase = Phase::Open;
+            }
+            Routed::Won(row, aim) => {
+                self.current.router = Some(row);
+                self.current.aim = Some(aim);
+                self.stage = Stage::Look;
+                self.phase = Phase::Open;
+            }
+        }
+        Ok(())
+    }
+}
+
+// What is made of the request by its configuration.
+fn find_route(alloc: Global, current: &Current, entry: &[u8], peer: Ip) -> Result<Routed, Memory>
+    ensures { IfOk result (IsRoute entry.now peer current.now.asked (issue_plan current.now.issue)) }
+{
+    match &current.asked {
+        Asked::Nothing => Ok(Routed::Unknown),
+        Asked::Refused(cause) => Ok(Routed::Refused(*cause)),
+        Asked::Request(request) => match &current.issue {
+            None => Ok(Routed::Unknown),
+            Some(issue) => match issue.winner(alloc, entry, request, peer)? {
+                Some(row) => match issue.target(row) {
+                    Some(target) => Ok(Routed::Won(row, aim_at(alloc, target)?)),
+                    None => Err(AllocError),
+                },
+                None => Ok(Routed::Lost),
+            },
+        },
+    }
+}
+
+fn aim_at(alloc: Global, target: &Target) -> Result<Aim, Memory>
+    ensures { IfOk result (λ a. IsAim a (aim_of target.now)) }
+{
+    let host = Bytes::from_slice(alloc, target.host.as_slice())?;
+    Ok(Aim {
+        node: target.node,
+        server: Server {
+            host,
+            port: target.port,
+            weight: 1,
+        },
+        pass_host: target.pass_host,
+    })
+}
+
+/// Why the connection ends after the reply to the current request.
+pub(crate) fn end_after(current: &Current) -> Option<EndCause>
+    ensures end { result ≡ end_by current.now.index current.now.asked }
+{
+    match &current.asked {
+        Asked::Request(request) => {
+            if !request.keep {
+                Some(EndCause::Asked)
+            } else if current.index >= 1000 {
+                Some(EndCause::Count)
+            } else {
+                None
+            }
+        }
+        Asked::Refused(_) => Some(EndCause::Refused),
+        Asked::Nothing => Some(EndCause::Refused),
+    }
+}
+
+// The status of a refusal.
+fn refused_status(cause: Cause) -> u16
+    ensures status { result ≡ refused_status cause }
+    ensures known { IsTrue (is_own_error result) }
+{
+    match cause {
+        Cause::Head(HeadName::BadCoding) => 501,
+        Cause::HeadTooLarge => 431,
+        _ => 400,
+    }
+}

@@ -1,0 +1,46 @@
+//! The machine of one client connection: what it waits for.
+ghost use Rattle.conn_machine.specs.Reached.{IsWant};
+
+use crate::conn::Conn;
+use crate::parts::{Phase, Stage};
+
+/// What a connection waits for.
+#[derive(Clone, Copy, Debug, PartialEq, Eq)]
+pub enum Want {
+    /// Bytes of the client.
+    Bytes,
+    /// A configuration, for `pin`.
+    Pin,
+    /// The servers of this balancer that are up, for `looked`.
+    Look { node: u32 },
+    /// A pick of this balancer, for `drew` or `spent`.
+    Walk { node: u32 },
+    /// Its links.
+    Links,
+    /// Nothing: it ends, or must be given up.
+    Ended,
+}
+
+impl Conn {
+    /// What it waits for.
+    pub fn want(&self) -> Want
+        ensures { IsWant result self.now }
+    {
+        match self.phase {
+            Phase::Open => match self.stage {
+                Stage::Head => Want::Bytes,
+                Stage::Pin => Want::Pin,
+                Stage::Look => match &self.current.aim {
+                    Some(aim) => Want::Look { node: aim.node },
+                    None => Want::Links,
+                },
+                Stage::Walk => match &self.current.aim {
+                    Some(aim) => Want::Walk { node: aim.node },
+                    None => Want::Links,
+                },
+                _ => Want::Links,
+            },
+            _ => Want::Ended,
+        }
+    }
+}

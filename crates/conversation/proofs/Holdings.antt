@@ -1,0 +1,317 @@
+-- What each event leaves of what a machine keeps.
+use Rattle.std.proofs.Common.{zero, suc, take, drop, ◌≡◌, ◌≢◌, ℕ, ◌+◌, ◌≤◌, List, [], ◌∷◌, ◌++◌, Option, Some, None, refl, sym, ◌∙◌, ap, arith, Bool, true, false}
+use Rattle.std.specs.List.{flat_map, AllByRecursion, Contains}
+use Rattle.std.proofs.lemmas.List.{append-nil, append_assoc}
+use Rattle.std.proofs.lemmas.List.Concat.{flat_map-append}
+use Rattle.ip_net.specs.declared.ip.Ip.{Ip}
+use Rattle.link_world.specs.declared.note.Note.{Note}
+use Rattle.link_world.specs.declared.note.EndCause.{EndCause}
+use Rattle.link_world.specs.declared.note.EndCause.TheVariants.{Client, ClientFailed, Asked, Refused, Unread, Idle, Count, Cut, CutLate, Stopped, Memory}
+use Rattle.link_world.specs.declared.note.Look.{Look}
+use Rattle.link_world.specs.declared.note.NodePick.{NodePick}
+use Rattle.link_world.specs.declared.note.Cause.TheVariants.{Undecided}
+use Rattle.link_world.specs.Log.{LinkEvent, came, gave, gave_end, took, noted, given, taken, notes, ends, given_by, taken_by, note_by, end_by}
+use Rattle.conversation.specs.Plans.{Plan}
+use Rattle.conversation.specs.Steps.{Step, happened, history, failures, stops, pins}
+use Rattle.conversation.specs.Asks.{Ask}
+use Rattle.conversation.specs.Turns.{Turn, note_of}
+use Rattle.conversation.specs.Served.{of_all, of_last, item_of, reply_of, pin_of, looks_of, picks_of, spents_of, notes_of, AreNumbered, Rises, IsWhole, EndHolds, end_note, Served}
+use Rattle.conversation.specs.Holding.{Told, told, Holds, Sound}
+use Rattle.conversation.proofs.Tellings.{history_more, failures_happened, stops_happened}
+
+pub all_both : {X : Type 0} (P : X → Type 0) (xs ys : List X) → AllByRecursion P xs → AllByRecursion P ys → AllByRecursion P (xs ++ ys)
+all_both P [] ys h k = k
+all_both P (x ∷ xs) ys h k = (h.0, all_both P xs ys h.1 k)
+
+pub given_more : (h : List LinkEvent) (e : LinkEvent) → given (h ++ e ∷ []) ≡ given h ++ given_by e
+given_more h e = flat_map-append given_by h (e ∷ []) ∙ ap (λ (l : List ℕ). given h ++ l) (append-nil (given_by e))
+
+pub taken_more : (h : List LinkEvent) (e : LinkEvent) → taken (h ++ e ∷ []) ≡ taken h ++ taken_by e
+taken_more h e = flat_map-append taken_by h (e ∷ []) ∙ ap (λ (l : List ℕ). taken h ++ l) (append-nil (taken_by e))
+
+pub notes_more : (h : List LinkEvent) (e : LinkEvent) → notes (h ++ e ∷ []) ≡ notes h ++ note_by e
+notes_more h e = flat_map-append note_by h (e ∷ []) ∙ ap (λ (l : List Note). notes h ++ l) (append-nil (note_by e))
+
+pub ends_more : (h : List LinkEvent) (e : LinkEvent) → ends h ≢ [] → ends (h ++ e ∷ []) ≢ []
+ends_more h e some none = some (front (ends h) (ends (e ∷ [])) (sym (flat_map-append end_by h (e ∷ [])) ∙ none))
+  where
+    front : (xs ys : List (Unit {0})) → xs ++ ys ≡ [] → xs ≡ []
+    front [] ys is = refl
+    front (x ∷ xs) ys is = cc
+
+ends_end : (h : List LinkEvent) → ends (h ++ gave_end ∷ []) ≢ []
+ends_end h none = some (ends h) (sym (flat_map-append end_by h (gave_end ∷ [])) ∙ none)
+  where
+    some : (xs : List (Unit {0})) → xs ++ tt ∷ [] ≢ []
+    some [] is = cc
+    some (x ∷ xs) is = cc
+
+-- one more list in all
+close_list : {A : Type 0} (f : Turn → List A) (done : List Turn) (u : Turn) (xs : List A) → xs ≡ of_all f done (Some u) → xs ≡ of_all f (done ++ u ∷ []) None
+close_list f done u xs h =
+    h ∙ sym (append-nil (flat_map f (done ++ u ∷ [])) ∙ flat_map-append f done (u ∷ []) ∙ ap (λ l. flat_map f done ++ l) (append-nil (f u)))
+
+-- an event on the client's link
+event : {t : Told} {link : ℕ} {entry : List ℕ} {peer : Ip} {done : List Turn} {last : Option Turn} {rest left : List ℕ} {waiting closed ending : List Note} {over : Bool} {number next : ℕ}
+    (e : LinkEvent) {rest' left' : List ℕ} {waiting' closed' ending' : List Note} {over' : Bool}
+    → rest' ≡ rest ++ given_by e → left ≡ taken_by e ++ left'
+    → (notes t.events ++ note_by e) ++ waiting' ≡ (flat_map (notes_of link) done ++ closed') ++ ending'
+    → (over' ≡ true → ends (t.events ++ e ∷ []) ≢ [])
+    → Holds t link entry peer done last rest left waiting closed ending over number next
+    → Holds (record t { events = t.events ++ e ∷ [] }) link entry peer done last rest' left' waiting' closed' ending' over' number next
+event {t} {link} {entry} {peer} {done} {last} {rest} {left} e {rest'} {left'} {waiting'} {closed'} {ending'} in_rest in_left in_notes in_ends r = record {
+  arrived = (r.arrived.0 ++ e ∷ [], ap (λ (l : List LinkEvent). l ++ e ∷ []) r.arrived.1);
+  reads = given_more t.events e ∙ ap (λ (l : List ℕ). l ++ given_by e) r.reads ∙ append_assoc (of_all item_of done last) rest (given_by e) ∙ ap (λ (l : List ℕ). of_all item_of done last ++ l) (sym in_rest);
+  spells = ap (λ (l : List ℕ). l ++ left') (taken_more t.events e) ∙ append_assoc (taken t.events) (taken_by e) left' ∙ ap (λ (l : List ℕ). taken t.events ++ l) (sym in_left) ∙ r.spells;
+  noted = ap (λ (l : List Note). l ++ waiting') (notes_more t.events e) ∙ in_notes;
+  pinned = r.pinned;
+  looked = r.looked;
+  picked = r.picked;
+  refused = r.refused;
+  rising = r.rising;
+  numbered = r.numbered;
+  numbered_last = r.numbered_last;
+  whole = r.whole;
+  closes = in_ends;
+}
+
+-- a client came
+pub holds_came : (link : ℕ) (entry : List ℕ) (peer : Ip) → Holds (record { events = came entry peer ∷ []; pins = []; looks = []; picks = []; spents = [] }) link entry peer [] None [] [] [] [] [] false 0 1
+holds_came link entry peer = record {
+  arrived = ([], refl);
+  reads = refl;
+  spells = refl;
+  noted = refl;
+  pinned = refl;
+  looked = refl;
+  picked = refl;
+  refused = refl;
+  rising = omega arith;
+  numbered = refl;
+  numbered_last = tt;
+  whole = tt;
+  closes = λ (is : false ≡ true). cc;
+}
+
+-- it gave this
+pub holds_gave : {t : Told} {link : ℕ} {entry : List ℕ} {peer : Ip} {done : List Turn} {last : Option Turn} {rest left : List ℕ} {waiting closed ending : List Note} {over : Bool} {number next : ℕ}
+    (piece : List ℕ) {rest' : List ℕ} → rest' ≡ rest ++ piece
+    → Holds t link entry peer done last rest left waiting closed ending over number next
+    → Holds (record t { events = t.events ++ gave piece ∷ [] }) link entry peer done last rest' left waiting closed ending over number next
+holds_gave {t} {waiting} piece is r = event (gave piece) is refl (ap (λ (l : List Note). l ++ waiting) (append-nil (notes t.events)) ∙ r.noted) (λ c. ends_more t.events (gave piece) (r.closes c)) r
+
+-- it gave its end
+pub holds_over : {t : Told} {link : ℕ} {entry : List ℕ} {peer : Ip} {done : List Turn} {last : Option Turn} {rest left : List ℕ} {waiting closed ending : List Note} {over : Bool} {number next : ℕ}
+    → Holds t link entry peer done last rest left waiting closed ending over number next
+    → Holds (record t { events = t.events ++ gave_end ∷ [] }) link entry peer done last rest left waiting closed ending true number next
+holds_over {t} {rest} {waiting} r = event gave_end (sym (append-nil rest)) refl (ap (λ (l : List Note). l ++ waiting) (append-nil (notes t.events)) ∙ r.noted) (λ c. ends_end t.events) r
+
+cut : (n : ℕ) (xs : List ℕ) → xs ≡ take n xs ++ drop n xs
+cut zero xs = refl
+cut (suc n) [] = refl
+cut (suc n) (x ∷ xs) = ap (λ (l : List ℕ). x ∷ l) (cut n xs)
+
+pub cut_at : (n : ℕ) (xs : List ℕ) → xs ≡ take n xs ++ drop n xs
+cut_at n xs = cut n xs
+
+-- it took the first bytes
+pub holds_took : {t : Told} {link : ℕ} {entry : List ℕ} {peer : Ip} {done : List Turn} {last : Option Turn} {rest left : List ℕ} {waiting closed ending : List Note} {over : Bool} {number next : ℕ}
+    (n : ℕ) {left' : List ℕ} → left' ≡ drop n left
+    → Holds t link entry peer done last rest left waiting closed ending over number next
+    → Holds (record t { events = t.events ++ took (take n left) ∷ [] }) link entry peer done last rest left' waiting closed ending over number next
+holds_took {t} {rest} {left} {waiting} n {left'} is r =
+    event (took (take n left)) (sym (append-nil rest)) (cut n left ∙ ap (λ (l : List ℕ). take n left ++ l) (sym is))
+    (ap (λ (l : List Note). l ++ waiting) (append-nil (notes t.events)) ∙ r.noted) (λ c. ends_more t.events (took (take n left)) (r.closes c)) r
+
+-- a note that waited is told
+pub holds_told : {t : Told} {link : ℕ} {entry : List ℕ} {peer : Ip} {done : List Turn} {last : Option Turn} {rest left : List ℕ} {waiting closed ending : List Note} {over : Bool} {number next : ℕ}
+    (note : Note) {waiting' : List Note} → waiting ≡ note ∷ waiting'
+    → Holds t link entry peer done last rest left waiting closed ending over number next
+    → Holds (record t { events = t.events ++ noted note ∷ [] }) link entry peer done last rest left waiting' closed ending over number next
+holds_told {t} {rest} note {waiting'} is r =
+    event (noted note) (sym (append-nil rest)) refl (append_assoc (notes t.events) (note ∷ []) waiting' ∙ ap (λ (l : List Note). notes t.events ++ l) (sym is) ∙ r.noted)
+    (λ c. ends_more t.events (noted note) (r.closes c)) r
+
+-- the note of the last request is told
+pub holds_closed : {t : Told} {link : ℕ} {entry : List ℕ} {peer : Ip} {done : List Turn} {last : Option Turn} {rest left : List ℕ} {waiting : List Note} {over : Bool} {number next : ℕ}
+    (note : Note) → waiting ≡ []
+    → Holds t link entry peer done last rest left waiting [] [] over number next
+    → Holds (record t { events = t.events ++ noted note ∷ [] }) link entry peer done last rest left waiting (note ∷ []) [] over number next
+holds_closed {t} {link} {done} {rest} {waiting} note none r =
+    event (noted note) (sym (append-nil rest)) refl in_notes (λ c. ends_more t.events (noted note) (r.closes c)) r
+  where
+    before : notes t.events ≡ flat_map (notes_of link) done
+    before = sym (append-nil (notes t.events)) ∙ ap (λ (l : List Note). notes t.events ++ l) (sym none) ∙ r.noted ∙ append-nil (flat_map (notes_of link) done ++ []) ∙ append-nil (flat_map (notes_of link) done)
+
+    in_notes : (notes t.events ++ note ∷ []) ++ waiting ≡ (flat_map (notes_of link) done ++ note ∷ []) ++ []
+    in_notes = ap (λ (l : List Note). (notes t.events ++ note ∷ []) ++ l) none ∙ ap (λ (l : List Note). (l ++ note ∷ []) ++ []) before
+
+-- the end's note is told
+pub holds_ended : {t : Told} {link : ℕ} {entry : List ℕ} {peer : Ip} {done : List Turn} {last : Option Turn} {rest left : List ℕ} {waiting closed : List Note} {over : Bool} {number next : ℕ}
+    (note : Note) → waiting ≡ []
+    → Holds t link entry peer done last rest left waiting closed [] over number next
+    → Holds (record t { events = t.events ++ noted note ∷ [] }) link entry peer done last rest left waiting closed (note ∷ []) over number next
+holds_ended {t} {link} {done} {rest} {waiting} {closed} note none r =
+    event (noted note) (sym (append-nil rest)) refl in_notes (λ c. ends_more t.events (noted note) (r.closes c)) r
+  where
+    before : notes t.events ≡ flat_map (notes_of link) done ++ closed
+    before = sym (append-nil (notes t.events)) ∙ ap (λ (l : List Note). notes t.events ++ l) (sym none) ∙ r.noted ∙ append-nil (flat_map (notes_of link) done ++ closed)
+
+    in_notes : (notes t.events ++ note ∷ []) ++ waiting ≡ (flat_map (notes_of link) done ++ closed) ++ note ∷ []
+    in_notes = ap (λ (l : List Note). (notes t.events ++ note ∷ []) ++ l) none ∙ append-nil (notes t.events ++ note ∷ []) ∙ ap (λ (l : List Note). l ++ note ∷ []) before
+
+rises_more : (from : ℕ) (ps : List Plan) (to : ℕ) (p : Plan) → Rises from ps to → to ≤ p.number → Rises from (ps ++ p ∷ []) p.number
+rises_more from [] to p h le = (omega arith, omega arith)
+rises_more from (q ∷ ps) to p h le = (h.0, rises_more q.number ps to p h.1 le)
+
+add_last : {A : Type 0} (f : Turn → List A) (done : List Turn) (u : Turn) (xs : List A) → xs ≡ of_all f done None → f u ≡ [] → xs ≡ of_all f done (Some u)
+add_last f done u xs h none = h ∙ ap (λ l. flat_map f done ++ l) (sym none)
+
+-- a request that was just pinned
+abbrev pub fresh_turn : ℕ → List ℕ → Ask → Plan → Turn
+fresh_turn index item ask p = record {
+  index = index;
+  item = item;
+  ask = ask;
+  plan = p;
+  router = None;
+  status = 0;
+  cause = Undecided;
+  looks = [];
+  picks = [];
+  spents = [];
+  back = None;
+  reply = [];
+  whole = false;
+}
+
+-- the next request is pinned
+pub holds_pinned : {t : Told} {link : ℕ} {entry : List ℕ} {peer : Ip} {done : List Turn} {rest left : List ℕ} {waiting closed ending : List Note} {over : Bool} {number next : ℕ}
+    (item : List ℕ) (ask : Ask) (p : Plan) {rest' : List ℕ} → rest ≡ item ++ rest' → number ≤ p.number
+    → Holds t link entry peer done None rest left waiting closed ending over number next
+    → Holds (record t { pins = t.pins ++ p ∷ [] }) link entry peer done (Some (fresh_turn next item ask p)) rest' left waiting closed ending over p.number next
+holds_pinned {t} {link} {entry} {peer} {done} {rest} {left} {number} {next} item ask p {rest'} in_rest le r = record {
+  arrived = r.arrived;
+  reads = r.reads ∙ ap (λ (l : List ℕ). (flat_map item_of done ++ []) ++ l) in_rest ∙ ap (λ (l : List ℕ). l ++ (item ++ rest')) (append-nil (flat_map item_of done)) ∙ sym (append_assoc (flat_map item_of done) item rest');
+  spells = add_last reply_of done (fresh_turn next item ask p) (taken t.events ++ left) r.spells refl;
+  noted = r.noted;
+  pinned = ap (λ (l : List Plan). l ++ p ∷ []) (r.pinned ∙ append-nil (flat_map pin_of done));
+  looked = add_last looks_of done (fresh_turn next item ask p) t.looks r.looked refl;
+  picked = add_last picks_of done (fresh_turn next item ask p) t.picks r.picked refl;
+  refused = add_last spents_of done (fresh_turn next item ask p) t.spents r.refused refl;
+  rising = rises_more 0 t.pins number p r.rising le;
+  numbered = r.numbered;
+  numbered_last = refl;
+  whole = r.whole;
+  closes = r.closes;
+}
+
+-- the same of the last request, but for its answer
+pub record SameTurn (u v : Turn) : Type 0 where
+  pub index : v.index ≡ u.index
+  pub item : v.item ≡ u.item
+  pub plan : v.plan ≡ u.plan
+  pub looks : v.looks ≡ u.looks
+  pub picks : v.picks ≡ u.picks
+  pub spents : v.spents ≡ u.spents
+
+-- the last request's reply goes on
+pub holds_replied : {t : Told} {link : ℕ} {entry : List ℕ} {peer : Ip} {done : List Turn} {u : Turn} {rest left : List ℕ} {waiting closed ending : List Note} {over : Bool} {number next : ℕ}
+    (v : Turn) (more : List ℕ) {left' : List ℕ} → SameTurn u v → v.reply ≡ u.reply ++ more → left' ≡ left ++ more
+    → Holds t link entry peer done (Some u) rest left waiting closed ending over number next
+    → Holds t link entry peer done (Some v) rest left' waiting closed ending over number next
+holds_replied {t} {link} {entry} {peer} {done} {u} {rest} {left} v more {left'} same in_reply in_left r = record {
+  arrived = r.arrived;
+  reads = r.reads ∙ ap (λ (l : List ℕ). (flat_map item_of done ++ l) ++ rest) (sym same.item);
+  spells = ap (λ (l : List ℕ). taken t.events ++ l) in_left ∙ sym (append_assoc (taken t.events) left more) ∙ ap (λ (l : List ℕ). l ++ more) r.spells ∙ append_assoc (flat_map reply_of done) u.reply more ∙ ap (λ (l : List ℕ). flat_map reply_of done ++ l) (sym in_reply);
+  noted = r.noted;
+  pinned = r.pinned ∙ ap (λ (p : Plan). flat_map pin_of done ++ p ∷ []) (sym same.plan);
+  looked = r.looked ∙ ap (λ (l : List Look). flat_map looks_of done ++ l) (sym same.looks);
+  picked = r.picked ∙ ap (λ (l : List NodePick). flat_map picks_of done ++ l) (sym same.picks);
+  refused = r.refused ∙ ap (λ (l : List ℕ). flat_map spents_of done ++ l) (sym same.spents);
+  rising = r.rising;
+  numbered = r.numbered;
+  numbered_last = same.index ∙ r.numbered_last;
+  whole = r.whole;
+  closes = r.closes;
+}
+
+numbered_more : (first : ℕ) (done : List Turn) (next : ℕ) (u : Turn) → AreNumbered first done next → u.index ≡ next → AreNumbered first (done ++ u ∷ []) (next + 1)
+numbered_more first [] next u h is = (is ∙ sym h, ap (λ (n : ℕ). n + 1) h)
+numbered_more first (t ∷ done) next u h is = (h.0, numbered_more (first + 1) done next u h.1 is)
+
+-- the last request has its whole reply and its note
+pub holds_done : {t : Told} {link : ℕ} {entry : List ℕ} {peer : Ip} {done : List Turn} {u : Turn} {rest left : List ℕ} {waiting : List Note} {over : Bool} {number next : ℕ}
+    → u.whole ≡ true
+    → Holds t link entry peer done (Some u) rest left waiting [] [] over number next
+    → Holds t link entry peer (done ++ u ∷ []) None rest left (waiting ++ note_of link u ∷ []) [] [] over number (next + 1)
+holds_done {t} {link} {done} {u} {rest} {left} {waiting} {next} whole r = record {
+  arrived = r.arrived;
+  reads = r.reads ∙ ap (λ (l : List ℕ). l ++ rest) (close_list item_of done u (of_all item_of done (Some u)) refl);
+  spells = close_list reply_of done u (taken t.events ++ left) r.spells;
+  noted = in_notes;
+  pinned = close_list pin_of done u t.pins r.pinned;
+  looked = close_list looks_of done u t.looks r.looked;
+  picked = close_list picks_of done u t.picks r.picked;
+  refused = close_list spents_of done u t.spents r.refused;
+  rising = r.rising;
+  numbered = numbered_more 1 done next u r.numbered r.numbered_last;
+  numbered_last = tt;
+  whole = all_both IsWhole done (u ∷ []) r.whole (whole, tt);
+  closes = r.closes;
+}
+  where
+    before : notes t.events ++ waiting ≡ flat_map (notes_of link) done
+    before = r.noted ∙ append-nil (flat_map (notes_of link) done ++ []) ∙ append-nil (flat_map (notes_of link) done)
+
+    after : (flat_map (notes_of link) (done ++ u ∷ []) ++ []) ++ [] ≡ flat_map (notes_of link) done ++ note_of link u ∷ []
+    after = append-nil (flat_map (notes_of link) (done ++ u ∷ []) ++ []) ∙ append-nil (flat_map (notes_of link) (done ++ u ∷ [])) ∙ flat_map-append (notes_of link) done (u ∷ [])
+
+    in_notes : notes t.events ++ (waiting ++ note_of link u ∷ []) ≡ (flat_map (notes_of link) (done ++ u ∷ []) ++ []) ++ []
+    in_notes = sym (append_assoc (notes t.events) waiting (note_of link u ∷ [])) ∙ ap (λ (l : List Note). l ++ note_of link u ∷ []) before ∙ sym after
+
+-- an end stays what it is while notes are told
+pub end_told : (cause : EndCause) (link : ℕ) (steps : List Step) (note : Note) (done : List Turn) (last : Option Turn) (rest left : List ℕ)
+    → EndHolds cause (history link steps) done last rest left (failures link steps ≢ []) (stops steps ≢ [])
+    → EndHolds cause (history link (steps ++ happened link (noted note) ∷ [])) done last rest left (failures link (steps ++ happened link (noted note) ∷ []) ≢ []) (stops (steps ++ happened link (noted note) ∷ []) ≢ [])
+end_told Client link steps note done last rest left h = (rw (history_more link steps (noted note)) (ends_more (history link steps) (noted note) h.0), h.1, h.2, h.3, h.4)
+end_told ClientFailed link steps note done last rest left h = rw (failures_happened link link steps (noted note)) h
+end_told Asked link steps note done last rest left h = h
+end_told Refused link steps note done last rest left h = h
+end_told Unread link steps note done last rest left h = h
+end_told (Idle base now) link steps note done last rest left h = h
+end_told Count link steps note done last rest left h = h
+end_told (Cut l) link steps note done last rest left h = h
+end_told (CutLate base now) link steps note done last rest left h = h
+end_told Stopped link steps note done last rest left h = rw (stops_happened link steps (noted note)) h
+end_told Memory link steps note done last rest left h = tt
+
+-- a machine that has told all of its notes and its end was served
+pub served : (steps : List Step) (plans : List Plan) (link : ℕ) (entry : List ℕ) (peer : Ip) (done : List Turn) (last : Option Turn) (rest left : List ℕ) (waiting : List Note) (over : Bool) (number next : ℕ) (cause : EndCause)
+    → waiting ≡ []
+    → Holds (told link steps) link entry peer done last rest left waiting (of_last (notes_of link) last) (end_note link cause ∷ []) over number next
+    → Sound steps entry peer done last
+    → EndHolds cause (history link steps) done last rest left (failures link steps ≢ []) (stops steps ≢ [])
+    → AllByRecursion (Contains plans) (pins steps)
+    → Served plans link entry peer steps (failures link steps ≢ []) (stops steps ≢ [])
+served steps plans link entry peer done last rest left waiting over number next cause none r sound ending held = record {
+  done = done;
+  last = last;
+  rest = rest;
+  left = left;
+  cause = cause;
+  arrived = r.arrived;
+  reads = r.reads;
+  spells = r.spells;
+  noted = sym (append-nil (notes (history link steps))) ∙ ap (λ (l : List Note). notes (history link steps) ++ l) (sym none) ∙ r.noted;
+  pinned = r.pinned;
+  looked = r.looked;
+  picked = r.picked;
+  refused = r.refused;
+  published = held;
+  rising = (number, r.rising);
+  numbered = (next, r.numbered, r.numbered_last);
+  answered = (sound.all, sound.one);
+  whole = r.whole;
+  ending = ending;
+}
