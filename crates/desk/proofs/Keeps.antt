@@ -113,8 +113,8 @@ pub seat_new : (ns ns' : List ℕ) (ls ls' : List Looked) (ps ps' : List Picked)
     → seat_in ns' ls' ps' n ≡ Some (held (seat_in ns ls ps n))
 seat_new ns ns' ls ls' ps ps' n e a b c =
     same_seat (among ns' n) true (looks_of ls' n) [] (picks_of ps' n) [] (ap (λ xs. among xs n) a ∙ any_new n ns)
-        (ap (λ xs. looks_of xs n) b ∙ gone (λ (x : Looked). x.number) (λ (x : Looked). x.look) n ls)
-        (ap (λ xs. picks_of xs n) c ∙ gone (λ (x : Picked). x.number) (λ (x : Picked). x.pick) n ps)
+    (ap (λ xs. looks_of xs n) b ∙ gone (λ (x : Looked). x.number) (λ (x : Looked). x.look) n ls)
+    (ap (λ xs. picks_of xs n) c ∙ gone (λ (x : Picked). x.number) (λ (x : Picked). x.pick) n ps)
     ∙ sym (ap (λ b. Some (held (seat_by b (looks_of ls n) (picks_of ps n)))) e)
 
 pub seat_new_others : (ns ns' : List ℕ) (ls ls' : List Looked) (ps ps' : List Picked) (n : ℕ)
@@ -122,8 +122,8 @@ pub seat_new_others : (ns ns' : List ℕ) (ls ls' : List Looked) (ps ps' : List 
     → (m : ℕ) → m ≢ n → seat_in ns' ls' ps' m ≡ seat_in ns ls ps m
 seat_new_others ns ns' ls ls' ps ps' n a b c = λ m d.
     same_seat (among ns' m) (among ns m) (looks_of ls' m) (looks_of ls m) (picks_of ps' m) (picks_of ps m) (ap (λ xs. among xs m) a ∙ any_more n m d ns)
-        (ap (λ xs. looks_of xs m) b ∙ left (λ (x : Looked). x.number) (λ (x : Looked). x.look) n m d ls)
-        (ap (λ xs. picks_of xs m) c ∙ left (λ (x : Picked). x.number) (λ (x : Picked). x.pick) n m d ps)
+    (ap (λ xs. looks_of xs m) b ∙ left (λ (x : Looked). x.number) (λ (x : Looked). x.look) n m d ls)
+    (ap (λ xs. picks_of xs m) c ∙ left (λ (x : Picked). x.number) (λ (x : Picked). x.pick) n m d ps)
 
 pub seat_gone : (ns ns' : List ℕ) (ls : List Looked) (ps : List Picked) (n : ℕ) → ns' ≡ filter (λ k. not (k == n)) ns → seat_in ns' ls ps n ≡ None
 seat_gone ns ns' ls ps n a = ap (λ b. seat_by b (looks_of ls n) (picks_of ps n)) (ap (λ xs. among xs n) a ∙ any_gone n ns)
@@ -133,8 +133,8 @@ pub seat_gone_others : (ns ns' : List ℕ) (ls ls' : List Looked) (ps ps' : List
     → (m : ℕ) → m ≢ n → seat_in ns' ls' ps' m ≡ seat_in ns ls ps m
 seat_gone_others ns ns' ls ls' ps ps' n a b c = λ m d.
     same_seat (among ns' m) (among ns m) (looks_of ls' m) (looks_of ls m) (picks_of ps' m) (picks_of ps m) (ap (λ xs. among xs m) a ∙ any_left n m d ns)
-        (ap (λ xs. looks_of xs m) b ∙ left (λ (x : Looked). x.number) (λ (x : Looked). x.look) n m d ls)
-        (ap (λ xs. picks_of xs m) c ∙ left (λ (x : Picked). x.number) (λ (x : Picked). x.pick) n m d ps)
+    (ap (λ xs. looks_of xs m) b ∙ left (λ (x : Looked). x.number) (λ (x : Looked). x.look) n m d ls)
+    (ap (λ xs. picks_of xs m) c ∙ left (λ (x : Picked). x.number) (λ (x : Picked). x.pick) n m d ps)
 
 held_by : (b : Bool) (looks : List Look) (picks : List NodePick) → b ≡ true → held (seat_by b looks picks) ≡ seat_of looks picks
 held_by b looks picks e = rw (e) refl
@@ -145,7 +145,7 @@ pub seat_look : (ns : List ℕ) (ls ls' : List Looked) (ps : List Picked) (x : L
 seat_look ns ls ls' ps x h a =
     let e = among_of (among ns x.number) (looks_of ls x.number) (picks_of ps x.number) h in
     same_seat (among ns x.number) true (looks_of ls' x.number) (looks_of ls x.number ++ x.look ∷ []) (picks_of ps x.number) (picks_of ps x.number) e
-        (ap (λ xs. looks_of xs x.number) a ∙ key_more (λ (y : Looked). y.number) (λ (y : Looked). y.look) x.number x refl ls) refl
+    (ap (λ xs. looks_of xs x.number) a ∙ key_more (λ (y : Looked). y.number) (λ (y : Looked). y.look) x.number x refl ls) refl
     ∙ sym (ap (λ s. Some (with_look s x.look)) (held_by (among ns x.number) (looks_of ls x.number) (picks_of ps x.number) e))
 
 pub seat_look_others : (ns : List ℕ) (ls ls' : List Looked) (ps : List Picked) (x : Looked) → ls' ≡ ls ++ x ∷ []
@@ -193,6 +193,6 @@ seat_draw ns ls ps ps' x count mask h a c d =
     let before = held_by (among ns x.number) (looks_of ls x.number) (picks_of ps x.number) e in
     let after = held_by (among ns x.number) (looks_of ls x.number) (picks_of ps' x.number) e in
     let more = draw_more (looks_of ls x.number) (picks_of ps x.number) (picks_of ps' x.number) x.pick.node count mask x.pick.pick
-        (ap (λ (xs : List Picked). picks_of xs x.number) a ∙ key_more (λ (y : Picked). y.number) (λ (y : Picked). y.pick) x.number x refl ps) c d in
+    (ap (λ (xs : List Picked). picks_of xs x.number) a ∙ key_more (λ (y : Picked). y.number) (λ (y : Picked). y.pick) x.number x refl ps) c d in
     subst (λ (s : Seat). DrawDid s x.pick.node mask (drawn.Pick x.pick.pick) (held (seat_in ns ls ps' x.number))) (sym before)
-        (subst (λ (s : Seat). DrawDid (seat_of (looks_of ls x.number) (picks_of ps x.number)) x.pick.node mask (drawn.Pick x.pick.pick) s) (sym after) more)
+    (subst (λ (s : Seat). DrawDid (seat_of (looks_of ls x.number) (picks_of ps x.number)) x.pick.node mask (drawn.Pick x.pick.pick) s) (sym after) more)

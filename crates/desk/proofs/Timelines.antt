@@ -18,14 +18,14 @@ pub timeline_more : (earlier earlier' : List (Arc Generation Global)) (newest ne
     → IsNumbered (generations_of earlier newest) → IsNumbered (generations_of earlier' newest')
 timeline_more earlier earlier' newest newest' before issue e b i n h =
     subst (λ (x : Arc Generation Global). IsNumbered (generations_of earlier' x)) (sym i)
-        (subst (λ (ps : List Plan). IsNumbered (ps ++ issue_plan issue ∷ []))
-            (sym (ap (map issue_plan) e ∙ map-append issue_plan earlier (before ∷ []) ∙ ap (λ (x : Arc Generation Global). map issue_plan earlier ++ issue_plan x ∷ []) b))
-            (numbered_more (map issue_plan earlier) (issue_plan newest) (issue_plan issue) n h))
+    (subst (λ (ps : List Plan). IsNumbered (ps ++ issue_plan issue ∷ []))
+    (sym (ap (map issue_plan) e ∙ map-append issue_plan earlier (before ∷ []) ∙ ap (λ (x : Arc Generation Global). map issue_plan earlier ++ issue_plan x ∷ []) b))
+    (numbered_more (map issue_plan earlier) (issue_plan newest) (issue_plan issue) n h))
 
 pub pinned_by : (earlier : List (Arc Generation Global)) (newest kept issue : Arc Generation Global) (pins pins' : List (Arc Generation Global)) (attended : ℕ → Option Seat)
     → arc_value kept ≡ arc_value newest → arc_value issue ≡ arc_value newest → pins' ≡ pins ++ kept ∷ [] → IsNumbered (generations_of earlier newest)
     → Pinned (record { generations = generations_of earlier newest; pins = map issue_plan pins; refused = 0; attended = attended }) (plan_of (arc_value issue))
-        (record { generations = generations_of earlier newest; pins = map issue_plan pins'; refused = 0; attended = attended })
+    (record { generations = generations_of earlier newest; pins = map issue_plan pins'; refused = 0; attended = attended })
 pinned_by earlier newest kept issue pins pins' attended k i e h = record {
   same = refl;
   grew = ([], sym (append-nil (generations_of earlier newest)));

@@ -41,7 +41,7 @@ fn request<R: Wait, S: Shared>(rt: &R, shared: &mut S, node: u32) -> Result<Met,
     })
 }
 
-fn met(number: u64, from: u64, to: u64) -> Met {
+fn expected(number: u64, from: u64, to: u64) -> Met {
     let child = 0;
     Met {
         number,
@@ -56,10 +56,10 @@ fn one_desk(rt: HostRuntime) -> Result<(), Fail> {
     let mut desk = OneDesk::new(alloc, numbered(alloc, 0)?)?;
     desk.publish(numbered(alloc, 1)?)?;
     assert_eq!(rt; desk.number(), 1);
-    assert_eq!(rt; request(&rt, &mut desk, 0)?, met(1, 0, 1));
-    assert_eq!(rt; request(&rt, &mut desk, 0)?, met(1, 1, 2));
-    assert_eq!(rt; request(&rt, &mut desk, 7)?, met(1, 0, 1));
+    assert_eq!(rt; request(&rt, &mut desk, 0)?, expected(1, 0, 1));
+    assert_eq!(rt; request(&rt, &mut desk, 0)?, expected(1, 1, 2));
+    assert_eq!(rt; request(&rt, &mut desk, 7)?, expected(1, 0, 1));
     desk.retire(1);
-    assert_eq!(rt; request(&rt, &mut desk, 0)?, met(1, 0, 1));
+    assert_eq!(rt; request(&rt, &mut desk, 0)?, expected(1, 0, 1));
     Ok(())
 }

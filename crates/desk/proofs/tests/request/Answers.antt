@@ -7,11 +7,11 @@ use Rattle.desk.proofs.tests.request.Goals as goal
 pub attend-requires : goal.attend-requires
 attend-requires g c = last_among _ _ c.in_ok-issue.ensures.pinned.last
 
-pub look-requires-clause-attended : goal.look-requires-clause-attended
-look-requires-clause-attended g c = attended_by _ _ _ _ (c.number-number.ensures ∙ ap (λ (x : Generation). (plan_of x).number) c.deref.ensures) c.in_ok-attend.ensures.attended.seat
+pub look-mask-requires-clause-attended : goal.look-mask-requires-clause-attended
+look-mask-requires-clause-attended g c = attended_by _ _ _ _ (c.number-number.ensures ∙ ap (λ (x : Generation). (plan_of x).number) c.deref.ensures) c.in_ok-attend.ensures.attended.seat
 
-pub draw-requires-clause-attended : goal.draw-requires-clause-attended
-draw-requires-clause-attended g c = held_some _ _ c.look-mask.ensures.looked.seat
+pub draw-drawn-requires-clause-attended : goal.draw-drawn-requires-clause-attended
+draw-drawn-requires-clause-attended g c = held_some _ _ c.look-mask.ensures.looked.seat
 
-pub draw-requires-clause-room : goal.draw-requires-clause-room
-draw-requires-clause-room g c = omega (arith, c.in_ok-attend.ensures.made.1, c.look-mask.ensures.room.1)
+pub draw-drawn-requires-clause-room : goal.draw-drawn-requires-clause-room
+draw-drawn-requires-clause-room g c = omega (arith, c.in_ok-attend.ensures.made.1, c.look-mask.ensures.room.1)
