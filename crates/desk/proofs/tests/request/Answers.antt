@@ -8,7 +8,7 @@ pub attend-requires : goal.attend-requires
 attend-requires g c = last_among _ _ c.in_ok-issue.ensures.pinned.last
 
 pub look-mask-requires-clause-attended : goal.look-mask-requires-clause-attended
-look-mask-requires-clause-attended g c = attended_by _ _ _ _ (c.number-number.ensures ∙ ap (λ (x : Generation). (plan_of x).number) c.deref.ensures) c.in_ok-attend.ensures.attended.seat
+look-mask-requires-clause-attended g c = attended_by (g.S.Shared.desk c.attend.new.self) _ _ _ (c.number-number.ensures ∙ ap (λ (x : Generation). (plan_of x).number) c.deref.ensures) c.in_ok-attend.ensures.attended.seat
 
 pub draw-drawn-requires-clause-attended : goal.draw-drawn-requires-clause-attended
 draw-drawn-requires-clause-attended g c = held_some _ _ c.look-mask.ensures.looked.seat
