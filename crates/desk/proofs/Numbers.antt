@@ -1,6 +1,5 @@
 -- Generations under numbers that run up.
 use Rattle.std.proofs.Common.{◌≡◌, ℕ, ◌+◌, ◌≤◌, List, [], ◌∷◌, ◌++◌, refl, sym, ap, ◌∙◌, subst, arith}
-use Rattle.std.specs.List.{AllByRecursion}
 use Rattle.conversation.specs.Plans.{Plan}
 use Rattle.desk.specs.Desks.{IsNumbered, IsLast, IsGreatest}
 

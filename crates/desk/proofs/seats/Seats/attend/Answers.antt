@@ -1,4 +1,4 @@
-use Rattle.std.proofs.Common.{rules, ◌≡◌, ℕ, ◌==◌, List, ◌∷◌, [], ◌++◌, not, filter, sym, ap, ◌∙◌}
+use Rattle.std.proofs.Common.{rules, ℕ, ◌==◌, List, ◌∷◌, [], ◌++◌, not, filter, sym, ap, ◌∙◌}
 use Rattle.std.specs.List.{list_any}
 use Rattle.desk.specs.declared.seats.Looked.{Looked}
 use Rattle.desk.specs.declared.seats.Picked.{Picked}
