@@ -1,0 +1,103 @@
+//! What one thread shares with itself.
+ghost use Rattle.std.specs.Prelude.{◌≡◌, ◌<◌, ◌+◌, ◌++◌, ◌∷◌, [], ℕ, None, OnOk, OnErr, IfOk};
+ghost use Rattle.desk.specs.Desks.{IsAttended, LookDid, RoomLeft};
+ghost use Rattle.desk.specs.Issues.{issue_plan};
+ghost use Rattle.desk.specs.Kept.{desk_of, room_of, newest_plan};
+
+use crate::seats::Seats;
+use crate::server::OneServer;
+use crate::shared::Shared;
+use crate::timeline::Timeline;
+use generation::Generation;
+use link_world::Look;
+use px_base::Memory;
+use std::alloc::Global;
+use std::sync::{Arc, Wait};
+use wrr_deadlines::Drawn;
+
+/// A desk of one thread. It stores all that it tells, and grows with its requests. Each server counts as up.
+#[derive(Drop)]
+pub struct OneDesk {
+    timeline: Timeline,
+    pins: Vec<Arc<Generation, Global>>,
+    seats: Seats,
+    server: OneServer,
+}
+
+impl OneDesk {
+    /// A desk that has seen this generation alone.
+    pub fn new(alloc: Global, first: Arc<Generation, Global>) -> Result<OneDesk, Memory>
+        ensures generations { IfOk result (λ d. (desk_of d).generations ≡ issue_plan first ∷ []) }
+        ensures pins { IfOk result (λ d. (desk_of d).pins ≡ []) }
+        ensures attended { IfOk result (λ d. (number : ℕ) → (desk_of d).attended number ≡ None) }
+        ensures newest { IfOk result (λ d. newest_plan d ≡ issue_plan first) }
+    {
+        let server = OneServer::new(alloc)?;
+        Ok(OneDesk {
+            timeline: Timeline::new(alloc, first),
+            pins: Vec::new(alloc),
+            seats: Seats::new(alloc),
+            server,
+        })
+    }
+
+    /// The number of the last generation.
+    pub fn number(&self) -> u64
+        ensures { result ≡ (newest_plan self.now).number }
+    {
+        self.timeline.newest.number()
+    }
+
+    /// Adds the next generation. Its number is one more than that of the last one.
+    pub fn publish(&mut self, issue: Arc<Generation, Global>) -> Result<(), Memory>
+        requires next { (issue_plan issue).number ≡ (newest_plan self.old).number + 1 }
+        ensures ok { OnOk result (desk_of self.new ≡ record (desk_of self.old) { generations = (desk_of self.old).generations ++ issue_plan issue ∷ [] }) }
+        ensures err { OnErr result (desk_of self.new ≡ desk_of self.old) }
+        ensures newest { OnOk result (newest_plan self.new ≡ issue_plan issue) }
+        ensures kept { OnErr result (newest_plan self.new ≡ newest_plan self.old) }
+    {
+        self.timeline.publish(issue)
+    }
+}
+
+impl Shared for OneDesk {
+    ghost desk = { desk_of };
+
+    ghost room = { λ d. room_of d.seats };
+
+    fn pin(&mut self) -> Result<Arc<Generation, Global>, Memory> {
+        self.pins.reserve(1)?;
+        let kept = self.timeline.last()?;
+        let issue = self.timeline.last()?;
+        self.pins.push_reserved(kept);
+        Ok(issue)
+    }
+
+    fn attend<R: Wait>(&mut self, rt: &R, issue: &Arc<Generation, Global>) -> Result<(), Memory> {
+        let _ = rt;
+        self.seats.attend(issue.number())
+    }
+
+    fn look(&mut self, number: u64, node: u32) -> u64
+        requires attended { IsAttended (desk_of self.old) number }
+        requires room { 0 < (room_of self.old.seats).looks }
+        ensures looked { LookDid (desk_of self.old) number node result (desk_of self.new) }
+        ensures room { RoomLeft (room_of self.old.seats) 1 0 (room_of self.new.seats) }
+
+        // Its server is up.
+        ensures up { result ≡ 1 }
+    {
+        let mask = 1;
+        self.seats.look(number, Look { node, mask });
+        mask
+    }
+
+    fn draw<R: Wait>(&mut self, rt: &R, number: u64, node: u32, mask: u64) -> Drawn {
+        let _ = rt;
+        self.seats.draw(&self.server, number, node, mask)
+    }
+
+    fn retire(&mut self, number: u64) {
+        self.seats.retire(number);
+    }
+}

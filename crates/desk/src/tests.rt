@@ -1,0 +1,65 @@
+//! A desk that two generations are published on.
+ghost use Rattle.std.specs.Prelude.{◌≡◌, IfOk};
+ghost use Rattle.desk.specs.Issues.{issue_plan};
+
+use crate::{OneDesk, Shared};
+use generation::Generation;
+use px_base::{List, Memory};
+use std::alloc::Global;
+use std::sync::{Arc, Wait};
+use std::test::Fail;
+use wrr_deadlines::{Drawn, Pick};
+
+fn numbered(alloc: Global, number: u64) -> Result<Arc<Generation, Global>, Memory>
+    ensures { IfOk result (λ issue. (issue_plan issue).number ≡ number) }
+{
+    let generation = Generation::new(number, List::new(alloc));
+    let Ok(issue) = Arc::new(alloc, generation) else {
+        return Err(std::alloc::AllocError);
+    };
+    Ok(issue)
+}
+
+// What a request meets: the number of its generation, a look and a draw at a node.
+#[derive(Clone, Copy, Debug, PartialEq, Eq)]
+struct Met {
+    number: u64,
+    mask: u64,
+    drawn: Drawn,
+}
+
+fn request<R: Wait, S: Shared>(rt: &R, shared: &mut S, node: u32) -> Result<Met, Memory> {
+    let issue = shared.pin()?;
+    shared.attend(rt, &issue)?;
+    let number = issue.number();
+    let mask = shared.look(number, node);
+    let drawn = shared.draw(rt, number, node, mask);
+    Ok(Met {
+        number,
+        mask,
+        drawn,
+    })
+}
+
+fn expected(number: u64, from: u64, to: u64) -> Met {
+    let child = 0;
+    Met {
+        number,
+        mask: 1,
+        drawn: Drawn::Pick(Pick { from, to, child }),
+    }
+}
+
+#[test]
+fn one_desk(rt: HostRuntime) -> Result<(), Fail> {
+    let alloc = rt.alloc();
+    let mut desk = OneDesk::new(alloc, numbered(alloc, 0)?)?;
+    desk.publish(numbered(alloc, 1)?)?;
+    assert_eq!(rt; desk.number(), 1);
+    assert_eq!(rt; request(&rt, &mut desk, 0)?, expected(1, 0, 1));
+    assert_eq!(rt; request(&rt, &mut desk, 0)?, expected(1, 1, 2));
+    assert_eq!(rt; request(&rt, &mut desk, 7)?, expected(1, 0, 1));
+    desk.retire(1);
+    assert_eq!(rt; request(&rt, &mut desk, 0)?, expected(1, 0, 1));
+    Ok(())
+}
