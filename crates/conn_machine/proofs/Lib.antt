@@ -4,3 +4,4 @@ pub mod Starts
 pub mod Turnings
 pub mod Tells
 pub mod Walkings
+pub mod Exchanges
