@@ -164,8 +164,8 @@ opened_dialled {steps} {k} {m} {trail} {input} {pending} {waiting} {over} l aim 
         → (let s : List LinkEvent = dialled a.server.host a.server.port ∷ [] in s) ≡ dialled target.host target.port ∷ []
     dialled_to a target is = rw (is.host, is.port) refl
 
-no_reply : (method : List ℕ) (back : BackView) (gave content : List ℕ) (ended failed : Bool) → back.state ≡ backs.Waiting → StateHolds back.state method gave content ended failed back → back.reply ≡ None
-no_reply method back gave content ended failed is h = let w : StateHolds backs.Waiting method gave content ended failed back = subst (λ (s : BackState). StateHolds s method gave content ended failed back) is h in w.1.none
+no_reply : (method : List ℕ) (back : BackView) (given_ content : List ℕ) (ended failed : Bool) → back.state ≡ backs.Waiting → StateHolds back.state method given_ content ended failed back → back.reply ≡ None
+no_reply method back given_ content ended failed is h = let w : StateHolds backs.Waiting method given_ content ended failed back = subst (λ (s : BackState). StateHolds s method given_ content ended failed back) is h in w.1.none
 
 -- the exchange begins
 pub opened_exchange : {steps : List Step} {k : Client} {m : Current} {trail : Trail} {input pending : List ℕ} {waiting : List Note} {over : Bool} (aim : Aim) (r : HttpRequest) (back : BackView) {m' : Current}
