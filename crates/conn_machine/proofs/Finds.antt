@@ -1,12 +1,12 @@
 -- What a scan finds is a request, or one that is refused.
-use Rattle.std.proofs.Common.{◌≡◌, ◌≢◌, ◌⊎◌, inl, inr, ℕ, ◌+◌, ◌<◌, ◌≤◌, List, [], ◌∷◌, ◌++◌, length, take, drop, map, min, Option, Some, None, Result, Ok, Err, refl, sym, ◌∙◌, ap, subst, arith}
+use Rattle.std.proofs.Common.{◌≡◌, ◌⊎◌, inl, inr, ℕ, ◌+◌, ◌<◌, ◌≤◌, List, ◌++◌, length, take, drop, Result, Ok, Err, refl, sym, ◌∙◌, ap, subst, arith}
 use Rattle.std.proofs.lemmas.List.{append-nil, length-append, length-take}
 use Rattle.std.proofs.Math.Seq.{take-append_seam, take-length}
-use Rattle.httparse.specs.Grammar.{RequestHead, ReadsRequest, NeverHasRequest, print_request}
-use Rattle.httparse.specs.Spans.{span_bytes, name_and_value, header_bytes}
+use Rattle.httparse.specs.Grammar.{RequestHead, NeverHasRequest, print_request}
+use Rattle.httparse.specs.Spans.{span_bytes}
 use Rattle.httparse.specs.declared.spans.HeaderSpan.{HeaderSpan}
 use Rattle.ip_net.specs.declared.ip.Ip.{Ip}
-use Rattle.head_view.specs.Lines.{Line as Field, lines_at, line_feeds}
+use Rattle.head_view.specs.Lines.{lines_at, line_feeds}
 use Rattle.head_view.specs.Scans.{AreHeadSpans, IsHeadAt, HasHead}
 use Rattle.head_view.specs.declared.scan.HeadSpans.{HeadSpans}
 use Rattle.http_wire.specs.Requests.{TakesRequest, IsHeadFault}
@@ -17,11 +17,10 @@ use Rattle.http_wire.specs.declared.requests.RequestRefused.{RequestRefused}
 use Rattle.http_wire.specs.declared.requests.RequestRefused.TheVariants as refused
 use Rattle.link_world.specs.declared.note.Cause.TheVariants as causes
 use Rattle.link_world.specs.declared.note.HeadName.TheVariants as name
-use Rattle.conversation.specs.Asks.{Ask, asks, faulty, unserved, broken, large, IsHead, IsServed, IsItem, Makes, fields_of, name_of, status_of, refusal}
-use Rattle.conn_machine.specs.Parts.{Fits, IsFound, refused_status}
+use Rattle.conversation.specs.Asks.{asks, faulty, unserved, broken, large, IsHead, IsServed, IsItem, Makes, fields_of, name_of}
+use Rattle.conn_machine.specs.Parts.{Fits, IsFound}
 use Rattle.conn_machine.specs.declared.parts.Asked.{Asked}
 use Rattle.conn_machine.specs.declared.parts.Asked.TheVariants.{Request, Refused}
-use Rattle.conn_machine.specs.declared.heads.Found.{Found}
 use Rattle.conn_machine.specs.declared.heads.Found.TheVariants as found
 
 -- the spans' bytes are a head

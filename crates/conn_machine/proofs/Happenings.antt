@@ -20,7 +20,7 @@ use Rattle.conversation.specs.Holding.{told, Holds, Sound}
 use Rattle.conversation.proofs.Tellings.{told_elsewhere, history_more, failures_happened, client_apart}
 use Rattle.conversation.proofs.Holdings.{holds_replied, given_more, taken_more, ends_more}
 use Rattle.conn_machine.specs.Parts.{Trail, Tied, Fits, IsElse, IsExchanging, Passing, AtTurn}
-use Rattle.conn_machine.specs.Reached.{Opened}
+use Rattle.conn_machine.specs.Reached.{Opened, pending_to}
 use Rattle.conn_machine.specs.declared.parts.Asked.{Asked}
 use Rattle.conn_machine.specs.declared.parts.Client.{Client}
 use Rattle.conn_machine.specs.declared.parts.Current.{Current}
@@ -156,7 +156,7 @@ pub opened_back_took : {steps : List Step} {k : Client} {m : Current} {trail : T
     → back ≡ record old { pending = drop n old.pending }
     → ((message method took gave content : List ℕ) (ended failed : Bool) → Exchanged message method took gave content ended failed old → Exchanged message method (took ++ take n old.pending) gave content ended failed back)
     → Opened steps k m trail input pending waiting over Exchange
-    → Opened (steps ++ happened m.link (took (take n old.pending)) ∷ []) k m' trail input pending waiting over Exchange
+    → Opened (steps ++ happened m.link (took (take n (pending_to m.back))) ∷ []) k m' trail input pending waiting over Exchange
 opened_back_took {steps} {k} {m} {trail} {input} {pending} {waiting} {over} n old back {m'} alike router status cause link_same back_is old_is value step o =
     let x : IsExchanging k.entry k.peer m pending o.done o.stage.turn = o.stage.holds in
     let u : Turn = o.stage.turn in
@@ -168,6 +168,7 @@ opened_back_took {steps} {k} {m} {trail} {input} {pending} {waiting} {over} n ol
     let after : Exchanged (message_to (u.plan.target x.row) x.r) x.r.method (taken (x.link.events ++ e ∷ [])) (given (x.link.events ++ e ∷ [])) x.content x.ended x.failed back =
     rw (taken_more x.link.events e, given_more x.link.events e, append-nil (given x.link.events)) (step (message_to (u.plan.target x.row) x.r) x.r.method (taken x.link.events) (given x.link.events) x.content x.ended x.failed before) in
     let reply_is : back.reply ≡ x.back.reply = ap (λ (b : BackView). b.reply) value ∙ sym (ap (λ (b : BackView). b.reply) same) in
-    opened_event e u.status u.cause [] back x.content x.ended x.failed alike router (status ∙ sym t.tied.status) (cause ∙ sym t.tied.cause) link_same back_is (sym (append-nil pending)) o after
+    subst (λ (p : List ℕ). Opened (steps ++ happened m.link (took (take n p)) ∷ []) k m' trail input pending waiting over Exchange) (sym (ap pending_to old_is))
+    (opened_event e u.status u.cause [] back x.content x.ended x.failed alike router (status ∙ sym t.tied.status) (cause ∙ sym t.tied.cause) link_same back_is (sym (append-nil pending)) o after
     (λ (q : x.ended ≡ true). ends_more x.link.events e (x.ends_is q)) x.fails_is
-    (subst (λ (p : Option HttpReply). Passing p x.r (moved u (longer x.link e) u.status u.cause []) x.content pending) (sym reply_is) (passing_on x.back.reply x.r u (longer x.link e) x.content pending x.passing))
+    (subst (λ (p : Option HttpReply). Passing p x.r (moved u (longer x.link e) u.status u.cause []) x.content pending) (sym reply_is) (passing_on x.back.reply x.r u (longer x.link e) x.content pending x.passing)))

@@ -5,3 +5,4 @@ pub mod Turnings
 pub mod Tells
 pub mod Walkings
 pub mod Exchanges
+pub mod Happenings

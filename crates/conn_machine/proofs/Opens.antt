@@ -1,23 +1,21 @@
 -- What an open machine keeps, and what each event on the client's link leaves of it.
-use Rattle.std.proofs.Common.{◌≡◌, ◌≢◌, ◌⊎◌, inl, inr, zero, suc, ℕ, ◌+◌, ◌<◌, ◌≤◌, List, [], ◌∷◌, ◌++◌, length, take, drop, Option, Some, None, refl, sym, ◌∙◌, ap, subst, arith, Bool, true, false}
-use Rattle.std.specs.List.{flat_map, AllByRecursion}
-use Rattle.std.proofs.lemmas.List.{append-nil, append_assoc, length-append, take-append-le, drop-append-le}
+use Rattle.std.proofs.Common.{◌≡◌, ◌≢◌, zero, suc, ℕ, ◌+◌, ◌≤◌, List, [], ◌∷◌, ◌++◌, length, take, drop, Option, Some, None, refl, sym, ◌∙◌, ap, subst, arith, Bool, true}
+use Rattle.std.proofs.lemmas.List.{length-append, take-append-le, drop-append-le}
 use Rattle.ip_net.specs.declared.ip.Ip.{Ip}
-use Rattle.httparse.specs.Grammar.{MayBecomeRequest}
 use Rattle.link_world.specs.declared.note.Note.{Note}
 use Rattle.link_world.specs.declared.note.EndCause.{EndCause}
-use Rattle.link_world.specs.Log.{LinkEvent, came, gave, gave_end, took, noted, ends}
+use Rattle.link_world.specs.Log.{gave, gave_end, took}
 use Rattle.conversation.specs.Steps.{Step, happened, failed, stopped, history, failures, stops}
-use Rattle.conversation.specs.Asks.{Ask, IsItem}
+use Rattle.conversation.specs.Asks.{IsItem}
 use Rattle.conversation.specs.Turns.{Stage as TurnStage, Turn}
-use Rattle.conversation.specs.Served.{of_last, notes_of, IsKept, EndHolds, end_note}
-use Rattle.conversation.specs.Holding.{Told, told, Holds, Sound}
-use Rattle.conversation.proofs.Tellings.{told_happened, told_failed, told_stopped, sound_happened, sound_failed, sound_stopped, failures_more, stops_more}
-use Rattle.conversation.proofs.Holdings.{holds_came, holds_gave, holds_over, holds_took}
+use Rattle.conversation.specs.Served.{EndHolds}
+use Rattle.conversation.specs.Holding.{Told, Holds}
+use Rattle.conversation.proofs.Tellings.{told_happened, told_failed, told_stopped, sound_happened, sound_failed, sound_stopped}
+use Rattle.conversation.proofs.Holdings.{holds_gave, holds_over, holds_took}
 use Rattle.http_wire.specs.declared.message.Request.{Request as HttpRequest}
 use Rattle.http_wire.specs.declared.message.Reply.{Reply as HttpReply}
-use Rattle.conn_machine.specs.Parts.{Trail, TiedBy, AtStage, AtHead, AtPin, AtTurn, IsOpenAt, IsAimedAt, IsExchanging, Passing}
-use Rattle.conn_machine.specs.Reached.{Reached, Kept, Opened, PhaseHolds, ending_note, closed_by, trail_of, pending_of, Waits}
+use Rattle.conn_machine.specs.Parts.{Trail, AtStage, AtTurn, IsOpenAt, IsAimedAt, Passing}
+use Rattle.conn_machine.specs.Reached.{Reached, Kept, Opened, PhaseHolds, ending_note, trail_of, pending_of, Waits}
 use Rattle.conn_machine.specs.declared.parts.Client.{Client}
 use Rattle.conn_machine.specs.declared.parts.Current.{Current}
 use Rattle.conn_machine.specs.declared.parts.Stage.{Stage}

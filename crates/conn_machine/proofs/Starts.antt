@@ -1,29 +1,24 @@
 -- How a connection begins, finds its next request, and ends without one.
-use Rattle.std.proofs.Common.{◌≡◌, ◌≢◌, ◌⊎◌, inl, inr, ℕ, ◌+◌, ◌<◌, ◌≤◌, List, [], ◌∷◌, ◌++◌, length, take, drop, min, Option, Some, None, refl, sym, ◌∙◌, ap, subst, arith, Bool, true, false}
-use Rattle.std.specs.List.{AllByRecursion}
+use Rattle.std.proofs.Common.{◌≡◌, inl, ℕ, ◌<◌, ◌≤◌, List, [], ◌∷◌, length, take, drop, min, None, refl, sym, ◌∙◌, ap, subst, arith, Bool, true, false}
 use Rattle.std.proofs.Common.{Vec}
 use Rattle.std.specs.declared.alloc.Global.{Global}
-use Rattle.std.proofs.lemmas.List.{append-nil, length-take, take-append-le, take-append-drop, take_all}
-use Rattle.std.proofs.Math.Seq.{take-length}
+use Rattle.std.proofs.lemmas.List.{length-take, take-append-le, take-append-drop, take_all}
 use Rattle.httparse.specs.Grammar.{MayBecomeRequest}
 use Rattle.ip_net.specs.declared.ip.Ip.{Ip}
 use Rattle.link_world.specs.declared.note.Note.{Note}
 use Rattle.link_world.specs.declared.note.Look.{Look}
 use Rattle.link_world.specs.declared.note.NodePick.{NodePick}
 use Rattle.link_world.specs.declared.note.EndCause.TheVariants.{Client as ByClient, Memory}
-use Rattle.link_world.specs.Log.{came, ends}
-use Rattle.conversation.specs.Steps.{Step, happened, history, failures, stops}
-use Rattle.conversation.specs.Asks.{Ask, IsItem}
-use Rattle.conversation.specs.Served.{EndHolds}
-use Rattle.conversation.specs.Holding.{told, Sound}
+use Rattle.link_world.specs.Log.{came}
+use Rattle.conversation.specs.Steps.{Step, happened}
+use Rattle.conversation.specs.Asks.{IsItem}
 use Rattle.conversation.proofs.Tellings.{told_happened}
 use Rattle.conversation.proofs.Holdings.{holds_came}
-use Rattle.conn_machine.specs.Parts.{Trail, TiedBy, Fits, IsFound, AtStage, AtHead, no_trail}
+use Rattle.conn_machine.specs.Parts.{Trail, TiedBy, Fits, IsFound, AtStage}
 use Rattle.conn_machine.specs.Reached.{Reached, Opened, PhaseHolds, ending_note, closed_by, trail_of, pending_of}
 use Rattle.conn_machine.specs.declared.parts.Asked.{Asked}
 use Rattle.conn_machine.specs.declared.parts.Client.{Client}
 use Rattle.conn_machine.specs.declared.parts.Current.{Current}
-use Rattle.conn_machine.specs.declared.parts.Stage.{Stage}
 use Rattle.conn_machine.specs.declared.parts.Stage.TheVariants.{Head, Pin}
 use Rattle.conn_machine.specs.declared.parts.Phase.{Phase}
 use Rattle.conn_machine.specs.declared.parts.Phase.TheVariants.{Open, Broken, Over, Told}

@@ -1,22 +1,20 @@
 -- What a machine's notes are, and what telling one leaves.
-use Rattle.std.proofs.Common.{length, get_or, drop, ◌≡◌, ◌≢◌, ◌⊎◌, inl, inr, ℕ, ◌+◌, ◌<◌, ◌≤◌, List, [], ◌∷◌, ◌++◌, Option, Some, None, refl, sym, ◌∙◌, ap, subst, arith, Bool, true, false, IsTrue, Vec, vec_len, ◌==◌}
-use Rattle.std.specs.List.{flat_map, AllByRecursion, Contains, remove}
+use Rattle.std.proofs.Common.{length, get_or, drop, ◌≡◌, ◌≢◌, ℕ, ◌<◌, List, [], ◌∷◌, ◌++◌, Option, Some, None, refl, sym, ◌∙◌, ap, subst, arith, Bool, true, false, Vec, vec_len, ◌==◌}
+use Rattle.std.specs.List.{flat_map, AllByRecursion}
 use Rattle.std.specs.declared.alloc.Global.{Global}
-use Rattle.std.proofs.lemmas.List.{append-nil, append_assoc, nil_from_length}
+use Rattle.std.proofs.lemmas.List.{append-nil, nil_from_length}
 use Rattle.std.proofs.lemmas.Bool.Decides.{nat_tests}
 use Rattle.link_world.specs.declared.note.Note.{Note}
-use Rattle.link_world.specs.declared.note.Look.{Look}
-use Rattle.link_world.specs.declared.note.NodePick.{NodePick}
 use Rattle.link_world.specs.declared.note.EndCause.{EndCause}
 use Rattle.link_world.specs.Log.{noted, notes}
 use Rattle.conversation.specs.Steps.{Step, happened, history, failures, stops}
-use Rattle.conversation.specs.Turns.{Turn, note_of}
+use Rattle.conversation.specs.Turns.{Turn}
 use Rattle.conversation.specs.Served.{of_last, notes_of, EndHolds, end_note}
 use Rattle.conversation.specs.Holding.{told, Holds, Sound}
 use Rattle.conversation.proofs.Tellings.{told_happened, sound_happened}
 use Rattle.conversation.proofs.Holdings.{all_both, holds_told, holds_closed, holds_ended, end_told}
-use Rattle.conn_machine.specs.Parts.{Trail, Tied, TiedBy, note_by, AtStage}
-use Rattle.conn_machine.specs.Reached.{Reached, Kept, PhaseHolds, ending_note, closed_by, trail_of, pending_of, IsUnended, IsRequestNote}
+use Rattle.conn_machine.specs.Parts.{Trail, TiedBy, note_by}
+use Rattle.conn_machine.specs.Reached.{Reached, PhaseHolds, ending_note, closed_by, trail_of, IsUnended, IsRequestNote}
 use Rattle.conn_machine.specs.declared.parts.Client.{Client}
 use Rattle.conn_machine.specs.declared.parts.Current.{Current}
 use Rattle.conn_machine.specs.declared.parts.Phase.{Phase}
@@ -72,17 +70,17 @@ reached_open_told {steps} {c} d cause note is is' none pinned note_is client unp
   kept = record {
     next = r.kept.next;
     holds = subst (λ (k : Client). Holds (told k.link (steps ++ happened c.client.link (noted note) ∷ [])) k.link k.entry k.peer r.done r.last r.rest r.left d.notes.items (closed_by d.current.pinned k.link r.last) (ending_note k.link d.phase) d.over d.current.number r.kept.next) (sym client)
-      (holds_as (told_happened c.client.link steps (noted note)) refl refl refl (ap (λ (v : Vec Note Global). v.items) notes_is)
-      (ap (λ (b : Bool). closed_by b c.client.link r.last) unpinned ∙ last_note c.current.pinned c.client.link c.current (trail_of c) r.last pinned r.kept.tied ∙ ap (λ (n : Note). n ∷ []) (sym note_is))
-      (ap (ending_note c.client.link) is') over number refl
-      (holds_closed note none (holds_as refl refl refl refl refl (sym (ap (λ (b : Bool). closed_by b c.client.link r.last) pinned)) (sym (ap (ending_note c.client.link) is)) refl refl refl r.kept.holds)));
+        (holds_as (told_happened c.client.link steps (noted note)) refl refl refl (ap (λ (v : Vec Note Global). v.items) notes_is)
+        (ap (λ (b : Bool). closed_by b c.client.link r.last) unpinned ∙ last_note c.current.pinned c.client.link c.current (trail_of c) r.last pinned r.kept.tied ∙ ap (λ (n : Note). n ∷ []) (sym note_is))
+        (ap (ending_note c.client.link) is') over number refl
+        (holds_closed note none (holds_as refl refl refl refl refl (sym (ap (λ (b : Bool). closed_by b c.client.link r.last) pinned)) (sym (ap (ending_note c.client.link) is)) refl refl refl r.kept.holds)));
     sound = subst (λ (k : Client). Sound (steps ++ happened c.client.link (noted note) ∷ []) k.entry k.peer r.done r.last) (sym client)
-      (sound_happened c.client.link steps (noted note) c.client.entry c.client.peer r.done r.last r.kept.holds.arrived r.kept.sound);
+        (sound_happened c.client.link steps (noted note) c.client.entry c.client.peer r.done r.last r.kept.holds.arrived r.kept.sound);
     tied = unpinned_tied d.current.pinned d.current (trail_of d) r.last unpinned;
   };
   phase = subst (λ (p : Phase). PhaseHolds p (steps ++ happened c.client.link (noted note) ∷ []) d r.done r.last r.rest r.left r.kept.next) (sym is')
-    (subst (λ (k : Client). EndHolds cause (history k.link (steps ++ happened c.client.link (noted note) ∷ [])) r.done r.last r.rest r.left (failures k.link (steps ++ happened c.client.link (noted note) ∷ []) ≢ []) (stops (steps ++ happened c.client.link (noted note) ∷ []) ≢ [])) (sym client)
-    (end_told cause c.client.link steps note r.done r.last r.rest r.left (subst (λ (p : Phase). PhaseHolds p steps c r.done r.last r.rest r.left r.kept.next) is r.phase)));
+      (subst (λ (k : Client). EndHolds cause (history k.link (steps ++ happened c.client.link (noted note) ∷ [])) r.done r.last r.rest r.left (failures k.link (steps ++ happened c.client.link (noted note) ∷ []) ≢ []) (stops (steps ++ happened c.client.link (noted note) ∷ []) ≢ [])) (sym client)
+      (end_told cause c.client.link steps note r.done r.last r.rest r.left (subst (λ (p : Phase). PhaseHolds p steps c r.done r.last r.rest r.left r.kept.next) is r.phase)));
 }
 
 -- the end is told
@@ -97,7 +95,7 @@ reached_end_told {steps} {c} cause note is none unpinned note_is r = record {
   kept = record {
     next = r.kept.next;
     holds = holds_as (told_happened c.client.link steps (noted note)) refl refl refl refl refl (ap (λ (n : Note). n ∷ []) (sym note_is)) refl refl refl
-      (holds_ended note none (holds_as refl refl refl refl refl refl (sym (ap (ending_note c.client.link) is)) refl refl refl r.kept.holds));
+        (holds_ended note none (holds_as refl refl refl refl refl refl (sym (ap (ending_note c.client.link) is)) refl refl refl r.kept.holds));
     sound = sound_happened c.client.link steps (noted note) c.client.entry c.client.peer r.done r.last r.kept.holds.arrived r.kept.sound;
     tied = r.kept.tied;
   };

@@ -1,6 +1,6 @@
 -- A pinned request: how it gets its router and its reply, and how it leaves.
-use Rattle.std.proofs.Common.{◌≡◌, ◌≢◌, ◌⊎◌, inl, inr, ℕ, ◌+◌, ◌<◌, ◌≤◌, List, [], ◌∷◌, ◌++◌, length, take, drop, Option, Some, None, refl, sym, ◌∙◌, ap, subst, arith, Bool, true, false, not, if◌then◌else◌}
-use Rattle.std.specs.List.{flat_map, AllByRecursion}
+use Rattle.std.proofs.Common.{◌≡◌, ◌≢◌, inr, ℕ, ◌+◌, ◌≤◌, List, [], ◌∷◌, ◌++◌, length, take, drop, Option, Some, None, refl, sym, ◌∙◌, ap, subst, Bool, true, false, not, if◌then◌else◌}
+use Rattle.std.specs.List.{AllByRecursion}
 use Rattle.std.specs.Prelude.{is_some, nat_le}
 use Rattle.std.proofs.Common.{Vec}
 use Rattle.std.specs.declared.alloc.Global.{Global}
@@ -18,13 +18,13 @@ use Rattle.link_world.specs.declared.note.EndCause.TheVariants as ending
 use Rattle.link_world.specs.Log.{LinkEvent, ends}
 use Rattle.conversation.specs.Plans.{Plan}
 use Rattle.conversation.specs.Steps.{Step, pinned, history, failures, stops}
-use Rattle.conversation.specs.Asks.{Ask, asks, faulty, unserved, broken, large, IsItem, refusal, name_of}
-use Rattle.conversation.specs.Turns.{Stage as TurnStage, unrouted, routed, Turn, note_of, closes, end_of, ends_after, ends_asked, links_of, Answers, AnswersBy, AnswersOwn, IsOwnText, IsUndecided, IsUnrouted, IsRouted, IsShown}
-use Rattle.conversation.specs.Served.{of_last, notes_of, IfLast, IsKept, EndHolds, EndsAfter, IsAnswered}
+use Rattle.conversation.specs.Asks.{Ask, asks, faulty, unserved, broken, large, refusal, name_of}
+use Rattle.conversation.specs.Turns.{Stage as TurnStage, unrouted, routed, Turn, note_of, closes, end_of, ends_after, Answers, AnswersBy, AnswersOwn, IsOwnText, IsUndecided, IsUnrouted}
+use Rattle.conversation.specs.Served.{of_last, notes_of, IsKept, EndHolds, IsAnswered}
 use Rattle.conversation.specs.Holding.{told, Holds, Sound}
 use Rattle.conversation.proofs.Tellings.{told_pinned, sound_pinned}
 use Rattle.conversation.proofs.Holdings.{all_both, cut_at, holds_pinned, holds_replied, holds_done, fresh_turn}
-use Rattle.conn_machine.specs.Parts.{Trail, Tied, TiedBy, Fits, refused_status, IsRoute, issue_plan, end_by, note_by, AtStage, AtPin, AtTurn, IsAim, IsOpenAt, IsAimedAt}
+use Rattle.conn_machine.specs.Parts.{Trail, Tied, TiedBy, Fits, refused_status, IsRoute, issue_plan, end_by, note_by, AtStage, AtTurn, IsAim, IsOpenAt, IsAimedAt}
 use Rattle.conn_machine.specs.Reached.{Reached, Opened, PhaseHolds, ending_note, closed_by, trail_of, pending_of}
 use Rattle.conn_machine.specs.declared.pins.Routed.{Routed}
 use Rattle.conn_machine.specs.declared.pins.Routed.TheVariants as route
@@ -34,9 +34,9 @@ use Rattle.conn_machine.specs.declared.parts.Aim.{Aim}
 use Rattle.conn_machine.specs.declared.parts.Client.{Client}
 use Rattle.conn_machine.specs.declared.parts.Current.{Current}
 use Rattle.conn_machine.specs.declared.parts.Stage.{Stage}
-use Rattle.conn_machine.specs.declared.parts.Stage.TheVariants.{Head, Pin, Route, Look, Down, Walk, Spent as SpentStage, Dial, Exchange, Reply}
+use Rattle.conn_machine.specs.declared.parts.Stage.TheVariants.{Head, Pin, Route, Look, Reply}
 use Rattle.conn_machine.specs.declared.parts.Phase.{Phase}
-use Rattle.conn_machine.specs.declared.parts.Phase.TheVariants.{Open, Broken, Over}
+use Rattle.conn_machine.specs.declared.parts.Phase.TheVariants.{Open, Over}
 use Rattle.conn_machine.specs.declared.conn.Conn.{Conn}
 use Rattle.conn_machine.proofs.Opens.{holds_as, reached_open}
 
@@ -128,7 +128,7 @@ opened_pinned {steps} {k} {m} {trail} {input} {pending} {waiting} {over} p {m'} 
       turn = u;
       rest = drop m.size input;
       holds = holds_as (told_pinned k.link steps p) refl refl refl refl refl refl refl f.number f.index
-        (holds_pinned (take m.size input) o.stage.ask p (o.stage.rest_is ∙ cut_at m.size input) le before);
+          (holds_pinned (take m.size input) o.stage.ask p (o.stage.rest_is ∙ cut_at m.size input) le before);
       sound = record {
         all = (let s : Sound (steps ++ pinned p ∷ []) k.entry k.peer o.done o.last = sound_pinned steps p k.entry k.peer o.done o.last o.sound in s.all);
         one = record { item = o.stage.item; answers = (unrouted, fresh_undecided m.index (take m.size input) o.stage.ask p k.entry k.peer); shown = tt };
@@ -192,7 +192,7 @@ opened_won {steps} {k} {m} {trail} {input} {pending} {waiting} {over} row aim {m
       turn = v;
       rest = t.rest;
       holds = holds_as refl refl refl refl refl refl refl refl alike.number alike.index
-        (holds_replied v [] (record { index = refl; item = refl; plan = refl; looks = refl; picks = refl; spents = refl }) (sym (append-nil u.reply)) (sym (append-nil pending)) t.holds);
+          (holds_replied v [] (record { index = refl; item = refl; plan = refl; looks = refl; picks = refl; spents = refl }) (sym (append-nil u.reply)) (sym (append-nil pending)) t.holds);
       sound = record { all = t.sound.all; one = record { item = t.sound.one.item; answers = subst (λ (c : Cause). AnswersBy c k.entry k.peer v) (sym t.has.undecided.cause) (routed, undecided); shown = t.sound.one.shown } };
       tied = record {
         index = t.tied.index ∙ sym alike.index;
@@ -235,7 +235,7 @@ opened_replied {steps} {k} {m} {trail} {input} {pending} {waiting} {over} status
       turn = v;
       rest = t.rest;
       holds = holds_as refl refl refl refl refl refl refl refl alike.number alike.index
-        (holds_replied v text (record { index = refl; item = refl; plan = refl; looks = refl; picks = refl; spents = refl }) (sym (ap (λ (l : List ℕ). l ++ text) t.has.undecided.reply)) (in_pending ∙ sym (ap (λ (l : List ℕ). l ++ text) t.has.none)) t.holds);
+          (holds_replied v text (record { index = refl; item = refl; plan = refl; looks = refl; picks = refl; spents = refl }) (sym (ap (λ (l : List ℕ). l ++ text) t.has.undecided.reply)) (in_pending ∙ sym (ap (λ (l : List ℕ). l ++ text) t.has.none)) t.holds);
       sound = record { all = t.sound.all; one = record { item = t.sound.one.item; answers = answers; shown = t.sound.one.shown } };
       tied = record {
         index = t.tied.index ∙ sym alike.index;

@@ -1,28 +1,25 @@
 -- What a look, a pick and a refused draw leave of a pinned request.
-use Rattle.std.proofs.Common.{◌≡◌, ◌≢◌, ℕ, zero, suc, ◌+◌, ◌<◌, ◌≤◌, List, [], ◌∷◌, ◌++◌, length, take, drop, Option, Some, None, refl, sym, ◌∙◌, ap, subst, arith, Bool, true, false, not, ◌==◌}
-use Rattle.std.specs.List.{flat_map, AllByRecursion}
+use Rattle.std.proofs.Common.{◌≡◌, ℕ, List, [], ◌∷◌, ◌++◌, Some, refl, sym, ◌∙◌, ap, subst, arith, Bool, true, false, not, ◌==◌}
+use Rattle.std.specs.List.{flat_map}
 use Rattle.std.specs.Prelude.{is_some, ◌%◌}
 use Rattle.std.proofs.lemmas.List.{append-nil}
 use Rattle.std.proofs.lemmas.Bool.Decides.{nat_tests}
 use Rattle.ip_net.specs.declared.ip.Ip.{Ip}
-use Rattle.http_wire.specs.declared.message.Request.{Request as HttpRequest}
 use Rattle.link_world.specs.declared.note.Note.{Note}
 use Rattle.link_world.specs.declared.note.Look.{Look as LookNote}
 use Rattle.link_world.specs.declared.note.NodePick.{NodePick}
 use Rattle.link_world.specs.declared.note.Cause.{Cause}
 use Rattle.link_world.specs.declared.note.Cause.TheVariants.{NoChild, Spent as SpentCause}
-use Rattle.conversation.specs.Plans.{Plan, Target}
-use Rattle.conversation.specs.Steps.{Step, looked, drew, spent, looks, picks, spents}
-use Rattle.conversation.specs.Turns.{Stage as TurnStage, routed, down, up, refused, picked, Turn, closes, is_up, node_of, HasLooked, IsAt, IsRouted, IsUndecided, IsOwnText, Answers, AnswersBy, AnswersOwn}
-use Rattle.conversation.specs.Served.{looks_of, picks_of, spents_of, IsKept, IsAnswered}
-use Rattle.conversation.specs.Holding.{Told, told, Holds, Sound}
+use Rattle.conversation.specs.Steps.{Step, looked, drew, spent}
+use Rattle.conversation.specs.Turns.{Stage as TurnStage, routed, down, up, refused, picked, Turn, closes, is_up, node_of, IsAt, IsUndecided, IsOwnText, AnswersBy, AnswersOwn}
+use Rattle.conversation.specs.Served.{looks_of, picks_of, spents_of}
+use Rattle.conversation.specs.Holding.{Told, Holds, Sound}
 use Rattle.conversation.proofs.Tellings.{told_looked, told_drew, told_spent, sound_looked, sound_drew, sound_spent}
-use Rattle.conn_machine.specs.Parts.{Trail, Tied, Fits, IsAim, IsOpenAt, IsAimedAt, issue_plan, end_by, AtTurn}
+use Rattle.conn_machine.specs.Parts.{Trail, IsAim, IsOpenAt, IsAimedAt, end_by}
 use Rattle.conn_machine.specs.Reached.{Opened}
 use Rattle.conn_machine.specs.declared.parts.Aim.{Aim}
 use Rattle.conn_machine.specs.declared.parts.Client.{Client}
 use Rattle.conn_machine.specs.declared.parts.Current.{Current}
-use Rattle.conn_machine.specs.declared.parts.Stage.{Stage}
 use Rattle.conn_machine.specs.declared.parts.Stage.TheVariants.{Look, Down, Walk, Spent, Dial, Reply}
 use Rattle.conn_machine.proofs.Opens.{holds_as}
 use Rattle.conn_machine.proofs.Turnings.{Turning, IsAlike, turning, at_turn, opened_turn, opened_replied, own_text_of, replied}

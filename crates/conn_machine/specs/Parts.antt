@@ -1,5 +1,5 @@
 -- The parts of a machine, and what each stage says of them.
-use Rattle.std.specs.Prelude.{◌≡◌, ◌≢◌, ℕ, ◌≤◌, ◌<◌, Bool, true, false, List, [], ◌∷◌, ◌++◌, length, take, drop, Option, Some, None}
+use Rattle.std.specs.Prelude.{◌≡◌, ◌≢◌, ℕ, ◌≤◌, ◌<◌, Bool, true, false, List, [], ◌++◌, length, take, drop, Option, Some, None}
 use Rattle.std.specs.List.{AllByRecursion}
 use Rattle.std.specs.declared.sync.Arc.{Arc}
 use Rattle.std.specs.declared.alloc.Global.{Global}
@@ -8,7 +8,6 @@ use Rattle.ip_net.specs.declared.ip.Ip.{Ip}
 use Rattle.httparse.specs.Grammar.{MayBecomeRequest}
 use Rattle.link_world.specs.declared.note.Note.{Note}
 use Rattle.link_world.specs.declared.note.NoteBody.TheVariants as body
-use Rattle.link_world.specs.declared.note.RequestNote.{RequestNote}
 use Rattle.link_world.specs.declared.note.Look.{Look}
 use Rattle.link_world.specs.declared.note.NodePick.{NodePick}
 use Rattle.link_world.specs.declared.note.Cause.{Cause}
@@ -86,12 +85,19 @@ pub record Trail : Type 0 where
 -- the note that the machine's parts make
 abbrev pub note_by : ℕ → Current → List Look → List NodePick → List ℕ → Note
 note_by link m looks picks backs = record {
-    link = link;
-    body = body.Request (record {
-      index = m.index; generation = m.number; router = m.router; status = m.status; cause = m.cause;
-      looks = looks; picks = picks; turns = []; backs = backs;
-    });
-  }
+  link = link;
+  body = body.Request (record {
+    index = m.index;
+    generation = m.number;
+    router = m.router;
+    status = m.status;
+    cause = m.cause;
+    looks = looks;
+    picks = picks;
+    turns = [];
+    backs = backs;
+  });
+}
 
 abbrev pub no_trail : Trail
 no_trail = record { looks = []; picks = []; backs = [] }

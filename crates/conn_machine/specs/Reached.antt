@@ -1,11 +1,9 @@
 -- The machine, and the relation with the steps that it was told, which each call keeps.
-use Rattle.std.specs.Prelude.{◌≡◌, ◌≢◌, ◌⊎◌, ℕ, ◌+◌, ◌<◌, ◌≤◌, List, [], ◌∷◌, ◌++◌, length, take, drop, Bool, true, false, IsTrue, Option, Some, None, vec_len, vec_capacity}
+use Rattle.std.specs.Prelude.{◌≡◌, ◌≢◌, ◌⊎◌, ℕ, ◌+◌, ◌<◌, ◌≤◌, List, [], ◌∷◌, drop, Bool, true, false, Option, Some, vec_len, vec_capacity}
 use Rattle.std.specs.List.{AllByRecursion}
 use Rattle.link_world.specs.declared.note.Note.{Note}
 use Rattle.link_world.specs.declared.note.NoteBody.{NoteBody}
 use Rattle.link_world.specs.declared.note.NoteBody.TheVariants as body
-use Rattle.link_world.specs.declared.note.RequestNote.{RequestNote}
-use Rattle.link_world.specs.declared.note.EndCause.{EndCause}
 use Rattle.link_world.specs.Log.{notes}
 use Rattle.conversation.specs.Steps.{Step, history, failures, stops}
 use Rattle.conversation.specs.Turns.{Turn}

@@ -59,6 +59,21 @@ impl Conn {
         Ok(())
     }
 
+    /// The link to the server took the first bytes that were pending for it.
+    pub fn back_took(&mut self, n: usize)
+        requires waits { Waits Stage.Exchange self.old }
+        requires some { n ≤ length (back_pending_of self.old) }
+        ensures client { self.new.client ≡ self.old.client }
+        ensures number { self.new.current.number ≡ self.old.current.number }
+        ensures waits { Waits Stage.Exchange self.new }
+        ensures reached { (steps : List Step) → Reached steps self.old
+            → Reached (steps ++ happened self.old.current.link (took (take n (back_pending_of self.old))) ∷ []) self.new }
+    {
+        if let Some(back) = &mut self.current.back {
+            back.took(n);
+        }
+    }
+
     /// What of the request the link to the server hasn't taken.
     pub fn back_pending(&self) -> &[u8]
         ensures { result.now ≡ back_pending_of self.now }

@@ -40,16 +40,10 @@ pub fn read_head(alloc: Global, buf: &[u8], peer: Ip) -> Result<Found, Memory>
             if buf.len() < HEAD_LIMIT {
                 Ok(Found::Part)
             } else {
-                Ok(Found::Head(
-                    Asked::Refused(Cause::HeadTooLarge),
-                    buf.len(),
-                ))
+                Ok(Found::Head(Asked::Refused(Cause::HeadTooLarge), buf.len()))
             }
         }
-        Scan::TooMany => Ok(Found::Head(
-            Asked::Refused(Cause::HeadTooLarge),
-            buf.len(),
-        )),
+        Scan::TooMany => Ok(Found::Head(Asked::Refused(Cause::HeadTooLarge), buf.len())),
         Scan::Bad => Ok(Found::Head(refused(HeadFault::BadHead), buf.len())),
     }
 }

@@ -10,6 +10,8 @@ mod parts;
 mod pins;
 mod relay;
 mod replies;
+#[cfg(test)]
+mod tests;
 mod walks;
 mod wants;
 

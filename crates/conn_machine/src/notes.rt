@@ -72,7 +72,7 @@ impl Conn {
         ensures served { IsTrue result → (steps : List Step) (plans : List Plan) → Reached steps self.now
             → AllByRecursion (Contains plans) (pins steps)
             → Served plans self.now.client.link self.now.client.entry self.now.client.peer steps
-                (failures self.now.client.link steps ≢ []) (stops steps ≢ []) }
+            (failures self.now.client.link steps ≢ []) (stops steps ≢ []) }
         ensures unended { (IsTrue result → ⊥) → IsUnended self.now }
     {
         self.notes.is_empty() && matches!(self.phase, Phase::Told(_))

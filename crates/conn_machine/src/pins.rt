@@ -115,12 +115,7 @@ impl Conn {
 }
 
 // What is made of the request by its configuration.
-fn find_route(
-    alloc: Global,
-    current: &Current,
-    entry: &[u8],
-    peer: Ip,
-) -> Result<Routed, Memory>
+fn find_route(alloc: Global, current: &Current, entry: &[u8], peer: Ip) -> Result<Routed, Memory>
     ensures { IfOk result (IsRoute entry.now peer current.now.asked (issue_plan current.now.issue)) }
 {
     match &current.asked {

@@ -1,5 +1,5 @@
 //! A reply on its way from a server to a client.
-ghost use Rattle.std.specs.Prelude.{◌≡◌, ◌++◌, ◌∷◌, [], None, Some, List, ℕ, OnOk, IfOk};
+ghost use Rattle.std.specs.Prelude.{◌≡◌, ◌++◌, ◌∷◌, [], None, Some, List, ℕ, OnOk, IfOk, is_some};
 ghost use Rattle.back_machine.specs.Exchanges.{IsOpen};
 ghost use Rattle.conn_machine.specs.Relays.{Relays, new_head};
 
@@ -23,7 +23,7 @@ pub fn relay(
     if !back.state().is_open() {
         return Err(AllocError);
     }
-    let had = back.reply().is_some();
+    let had = has_reply(back);
     let content = back.bytes(alloc, piece)?;
     push_head(alloc, had, back, version, close, out)?;
     out.extend_from_slice(&piece[content.from..content.from + content.len])?;
@@ -47,5 +47,14 @@ fn push_head(
     match back.reply() {
         Some(reply) => spell_reply(alloc, reply, version, close, out),
         None => Ok(()),
+    }
+}
+
+fn has_reply(back: &Back) -> bool
+    ensures { result ≡ is_some back.now.reply }
+{
+    match back.reply() {
+        Some(_) => true,
+        None => false,
     }
 }

@@ -1,11 +1,10 @@
 -- What each event leaves of what a machine keeps.
-use Rattle.std.proofs.Common.{zero, suc, length, take, drop, get_or, add-one, ◌≡◌, ◌≢◌, ◌⊎◌, inl, inr, ℕ, ◌+◌, ◌<◌, ◌≤◌, List, [], ◌∷◌, ◌++◌, Option, Some, None, refl, sym, ◌∙◌, ap, subst, arith, Bool, true, false}
+use Rattle.std.proofs.Common.{zero, suc, take, drop, ◌≡◌, ◌≢◌, ℕ, ◌+◌, ◌≤◌, List, [], ◌∷◌, ◌++◌, Option, Some, None, refl, sym, ◌∙◌, ap, arith, Bool, true, false}
 use Rattle.std.specs.List.{flat_map, AllByRecursion, Contains}
 use Rattle.std.proofs.lemmas.List.{append-nil, append_assoc}
 use Rattle.std.proofs.lemmas.List.Concat.{flat_map-append}
 use Rattle.ip_net.specs.declared.ip.Ip.{Ip}
 use Rattle.link_world.specs.declared.note.Note.{Note}
-use Rattle.link_world.specs.declared.note.NoteBody.TheVariants as body
 use Rattle.link_world.specs.declared.note.EndCause.{EndCause}
 use Rattle.link_world.specs.declared.note.EndCause.TheVariants.{Client, ClientFailed, Asked, Refused, Unread, Idle, Count, Cut, CutLate, Stopped, Memory}
 use Rattle.link_world.specs.declared.note.Look.{Look}
@@ -15,8 +14,8 @@ use Rattle.link_world.specs.Log.{LinkEvent, came, gave, gave_end, took, noted, g
 use Rattle.conversation.specs.Plans.{Plan}
 use Rattle.conversation.specs.Steps.{Step, happened, history, failures, stops, pins}
 use Rattle.conversation.specs.Asks.{Ask}
-use Rattle.conversation.specs.Turns.{Turn, note_of, end_of}
-use Rattle.conversation.specs.Served.{of_all, of_last, item_of, reply_of, pin_of, looks_of, picks_of, spents_of, notes_of, IfLast, AreNumbered, Rises, IsWhole, IsKept, EndsAfter, EndHolds, end_note, IsAnswered, Served}
+use Rattle.conversation.specs.Turns.{Turn, note_of}
+use Rattle.conversation.specs.Served.{of_all, of_last, item_of, reply_of, pin_of, looks_of, picks_of, spents_of, notes_of, AreNumbered, Rises, IsWhole, EndHolds, end_note, Served}
 use Rattle.conversation.specs.Holding.{Told, told, Holds, Sound}
 use Rattle.conversation.proofs.Tellings.{history_more, failures_happened, stops_happened}
 
@@ -171,9 +170,20 @@ add_last f done u xs h none = h ∙ ap (λ l. flat_map f done ++ l) (sym none)
 -- a request that was just pinned
 abbrev pub fresh_turn : ℕ → List ℕ → Ask → Plan → Turn
 fresh_turn index item ask p = record {
-    index = index; item = item; ask = ask; plan = p; router = None; status = 0; cause = Undecided; looks = []; picks = []; spents = []; back = None;
-    reply = []; whole = false;
-  }
+  index = index;
+  item = item;
+  ask = ask;
+  plan = p;
+  router = None;
+  status = 0;
+  cause = Undecided;
+  looks = [];
+  picks = [];
+  spents = [];
+  back = None;
+  reply = [];
+  whole = false;
+}
 
 -- the next request is pinned
 pub holds_pinned : {t : Told} {link : ℕ} {entry : List ℕ} {peer : Ip} {done : List Turn} {rest left : List ℕ} {waiting closed ending : List Note} {over : Bool} {number next : ℕ}

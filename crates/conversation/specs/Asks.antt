@@ -1,5 +1,5 @@
 -- What a client asks for: how its bytes are cut into requests.
-use Rattle.std.specs.Prelude.{◌≡◌, ◌≢◌, ℕ, ◌≤◌, ◌<◌, ◌⊎◌, false, List, [], ◌++◌, length, map, Option, Some, None, Ok}
+use Rattle.std.specs.Prelude.{◌≡◌, ℕ, ◌≤◌, ◌<◌, ◌⊎◌, false, List, [], length, map, Option, Some, None, Ok}
 use Rattle.ip_net.specs.declared.ip.Ip.{Ip}
 use Rattle.httparse.specs.Grammar.{RequestHead, ReadsRequest, NeverHasRequest}
 use Rattle.httparse.specs.Spans.{name_and_value}

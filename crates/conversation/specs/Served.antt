@@ -1,20 +1,18 @@
 -- One connection that was served: its bytes in, its bytes out and its notes.
-use Rattle.std.specs.Prelude.{◌≡◌, ◌≢◌, ℕ, ◌+◌, ◌≤◌, ◌⊎◌, Bool, true, false, List, [], ◌∷◌, ◌++◌, Option, Some, None}
+use Rattle.std.specs.Prelude.{◌≡◌, ◌≢◌, ℕ, ◌+◌, ◌≤◌, ◌⊎◌, true, false, List, [], ◌∷◌, ◌++◌, Option, Some, None}
 use Rattle.std.specs.List.{flat_map, AllByRecursion, Contains}
 use Rattle.ip_net.specs.declared.ip.Ip.{Ip}
 use Rattle.httparse.specs.Grammar.{MayBecomeRequest}
 use Rattle.link_world.specs.Log.{LinkEvent, came, given, taken, notes, ends}
 use Rattle.link_world.specs.declared.note.Note.{Note}
-use Rattle.link_world.specs.declared.note.NoteBody.{NoteBody}
 use Rattle.link_world.specs.declared.note.NoteBody.TheVariants as body
-use Rattle.link_world.specs.declared.note.RequestNote.{RequestNote}
 use Rattle.link_world.specs.declared.note.Look.{Look}
 use Rattle.link_world.specs.declared.note.NodePick.{NodePick}
 use Rattle.link_world.specs.declared.note.Cause.TheVariants.{Passed}
 use Rattle.link_world.specs.declared.note.EndCause.{EndCause}
 use Rattle.link_world.specs.declared.note.EndCause.TheVariants.{Client, ClientFailed, Asked, Refused, Unread, Idle, Count, Cut, CutLate, Stopped, Memory}
 use Rattle.conversation.specs.Plans.{Plan}
-use Rattle.conversation.specs.Steps.{Step, history, failures, pins, looks, picks, spents, stops}
+use Rattle.conversation.specs.Steps.{Step, history, pins, looks, picks, spents}
 use Rattle.conversation.specs.Asks.{IsItem}
 use Rattle.conversation.specs.Turns.{BackLink, Turn, note_of, end_of, Answers, IsShown}
 

@@ -10,7 +10,6 @@ use Rattle.http_wire.specs.declared.message.Reply.{Reply}
 use Rattle.link_world.specs.Log.{LinkEvent, dialled, given, taken, ends}
 use Rattle.link_world.specs.declared.note.Note.{Note}
 use Rattle.link_world.specs.declared.note.NoteBody.TheVariants as body
-use Rattle.link_world.specs.declared.note.RequestNote.{RequestNote}
 use Rattle.link_world.specs.declared.note.Look.{Look}
 use Rattle.link_world.specs.declared.note.NodePick.{NodePick}
 use Rattle.link_world.specs.declared.note.Cause.{Cause}
@@ -71,12 +70,19 @@ links_of (Some b) = b.link ∷ []
 -- its note
 abbrev pub note_of : ℕ → Turn → Note
 note_of link t = record {
-    link = link;
-    body = body.Request (record {
-      index = t.index; generation = t.plan.number; router = t.router; status = t.status; cause = t.cause;
-      looks = t.looks; picks = t.picks; turns = []; backs = links_of t.back;
-    });
-  }
+  link = link;
+  body = body.Request (record {
+    index = t.index;
+    generation = t.plan.number;
+    router = t.router;
+    status = t.status;
+    cause = t.cause;
+    looks = t.looks;
+    picks = t.picks;
+    turns = [];
+    backs = links_of t.back;
+  });
+}
 
 -- the text of an own reply with this status
 abbrev pub IsOwnText : ℕ → Bool → List ℕ → Type 0
@@ -146,7 +152,6 @@ IsAt up entry peer t = (r : Request) × (row : ℕ) × IsRouted entry peer r row
     × HasLooked (node_of t row) true t.looks × (t.picks ≡ []) × (t.spents ≡ []) × (t.back ≡ None)
 IsAt picked entry peer t = (r : Request) × (row : ℕ) × IsRouted entry peer r row t
     × HasLooked (node_of t row) true t.looks × HasPicked (node_of t row) t.picks × (t.spents ≡ []) × (t.back ≡ None)
-
 IsAt down entry peer t = (r : Request) × (row : ℕ) × IsRouted entry peer r row t
     × HasLooked (node_of t row) false t.looks × (t.picks ≡ []) × (t.spents ≡ []) × (t.back ≡ None)
 IsAt refused entry peer t = (r : Request) × (row : ℕ) × IsRouted entry peer r row t

@@ -1,4 +1,4 @@
-use Rattle.std.proofs.Common.{◌≡◌, ◌≤◌, ℕ, length, take, sym, arith}
+use Rattle.std.proofs.Common.{◌≡◌, ◌≤◌, length, take, sym, arith}
 use Rattle.std.proofs.lemmas.List.{take_all, length-take-le}
 use Rattle.conn_machine.proofs.conn.front.Goals as goal
 

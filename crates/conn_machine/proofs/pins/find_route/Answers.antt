@@ -7,13 +7,21 @@ use Rattle.conn_machine.specs.Parts.{issue_plan, IsAim}
 use Rattle.conn_machine.proofs.pins.find_route.Goals as goal
 
 pub returns-in_ok-aim_at-in-Some-target : goal.returns-in_ok-aim_at-in-Some-target
-returns-in_ok-aim_at-in-Some-target c =
-    (c.in-Request.request, plan_of (arc_value c.in-Some.issue), c.in-Request.is, ap issue_plan c.in-Some.is,
-    ap (λ (g : Generation). (plan_of g).winner c.args.entry.now c.in-Request.request c.args.peer) (sym c.deref.ensures) ∙ sym c.in_ok-row-in-Some.ensures ∙ c.in-Some-2.is,
-    subst (λ (t : Target). IsAim c.in_ok-aim_at-in-Some-target.field-0 t)
-    (sym (ap (λ (g : Generation). (plan_of g).target c.in-Some-2.row) (sym c.deref-in-Some-2.ensures) ∙ c.in-Some-target.ensures)) c.in_ok-aim_at-in-Some-target.ensures)
+returns-in_ok-aim_at-in-Some-target c = (
+  c.in-Request.request,
+  plan_of (arc_value c.in-Some.issue),
+  c.in-Request.is,
+  ap issue_plan c.in-Some.is,
+  ap (λ (g : Generation). (plan_of g).winner c.args.entry.now c.in-Request.request c.args.peer) (sym c.deref.ensures) ∙ sym c.in_ok-row-in-Some.ensures ∙ c.in-Some-2.is,
+  subst (λ (t : Target). IsAim c.in_ok-aim_at-in-Some-target.field-0 t)
+      (sym (ap (λ (g : Generation). (plan_of g).target c.in-Some-2.row) (sym c.deref-in-Some-2.ensures) ∙ c.in-Some-target.ensures)) c.in_ok-aim_at-in-Some-target.ensures,
+)
 
 pub returns-in-None-2 : goal.returns-in-None-2
-returns-in-None-2 c =
-    (c.in-Request.request, plan_of (arc_value c.in-Some.issue), c.in-Request.is, ap issue_plan c.in-Some.is,
-    ap (λ (g : Generation). (plan_of g).winner c.args.entry.now c.in-Request.request c.args.peer) (sym c.deref.ensures) ∙ sym c.in_ok-row-in-Some.ensures ∙ c.in-None-2.is)
+returns-in-None-2 c = (
+  c.in-Request.request,
+  plan_of (arc_value c.in-Some.issue),
+  c.in-Request.is,
+  ap issue_plan c.in-Some.is,
+  ap (λ (g : Generation). (plan_of g).winner c.args.entry.now c.in-Request.request c.args.peer) (sym c.deref.ensures) ∙ sym c.in_ok-row-in-Some.ensures ∙ c.in-None-2.is,
+)

@@ -1,7 +1,6 @@
-use Rattle.std.proofs.Common.{refl, ap, ◌∙◌, ◌++◌, ℕ, List}
-use Rattle.std.specs.Prelude.{is_some}
+use Rattle.std.proofs.Common.{refl}
 use Rattle.conn_machine.proofs.Opens.{opened_at, reached_open}
-use Rattle.conn_machine.proofs.Walkings.{opened_down, opened_up, opened_drew, opened_spent, opened_no_child, opened_refusal}
+use Rattle.conn_machine.proofs.Walkings.{opened_down, opened_up}
 use Rattle.conn_machine.proofs.conn.Conn.note_look.Goals as goal
 
 pub returns-then-look-eq0-clause-reached : goal.returns-then-look-eq0-clause-reached

@@ -1,7 +1,5 @@
-use Rattle.std.proofs.Common.{refl, sym, ap, subst, ◌∙◌, ◌++◌, ℕ, List}
+use Rattle.std.proofs.Common.{refl, ap, ◌∙◌, ◌++◌, ℕ, List}
 use Rattle.std.specs.Prelude.{is_some}
-use Rattle.conn_machine.specs.Parts.{IsRoute, issue_plan}
-use Rattle.conn_machine.specs.declared.pins.Routed.{Routed}
 use Rattle.conn_machine.specs.declared.pins.Routed.TheVariants as route
 use Rattle.conn_machine.proofs.Opens.{opened_at, reached_open}
 use Rattle.conn_machine.proofs.Turnings.{opened_refused, opened_lost, opened_won, route_at}
