@@ -66,7 +66,7 @@ shown_else : (steps : List Step) (l : ℕ) (e : LinkEvent) (o : Option BackLink)
 shown_else steps l e None other told = tt
 shown_else steps l e (Some b) other told = told_more steps (happened l e) b (apart_on b.link l e other) told
 
-all_shown : (steps : List Step) (l : ℕ) (e : LinkEvent) (entry : List ℕ) (peer : Ip) (done : List Turn) → AllByRecursion (λ (u : Turn). IsElse l u.back) done
+pub all_shown : (steps : List Step) (l : ℕ) (e : LinkEvent) (entry : List ℕ) (peer : Ip) (done : List Turn) → AllByRecursion (λ (u : Turn). IsElse l u.back) done
     → AllByRecursion (IsAnswered steps entry peer) done → AllByRecursion (IsAnswered (steps ++ happened l e ∷ []) entry peer) done
 all_shown steps l e entry peer [] other h = tt
 all_shown steps l e entry peer (t ∷ done) other h = (record { item = h.0.item; answers = h.0.answers; shown = shown_else steps l e t.back other.0 h.0.shown }, all_shown steps l e entry peer done other.1 h.1)
@@ -164,8 +164,8 @@ opened_dialled {steps} {k} {m} {trail} {input} {pending} {waiting} {over} l aim 
         → (let s : List LinkEvent = dialled a.server.host a.server.port ∷ [] in s) ≡ dialled target.host target.port ∷ []
     dialled_to a target is = rw (is.host, is.port) refl
 
-no_reply : (method : List ℕ) (back : BackView) (given_ content : List ℕ) (ended failed : Bool) → back.state ≡ backs.Waiting → StateHolds back.state method given_ content ended failed back → back.reply ≡ None
-no_reply method back given_ content ended failed is h = let w : StateHolds backs.Waiting method given_ content ended failed back = subst (λ (s : BackState). StateHolds s method given_ content ended failed back) is h in w.1.none
+no_reply : (method : List ℕ) (back : BackView) (given_ content : List ℕ) (ended_ failed_ : Bool) → back.state ≡ backs.Waiting → StateHolds back.state method given_ content ended_ failed_ back → back.reply ≡ None
+no_reply method back given_ content ended_ failed_ is h = let w : StateHolds backs.Waiting method given_ content ended_ failed_ back = subst (λ (s : BackState). StateHolds s method given_ content ended_ failed_ back) is h in w.1.none
 
 -- the exchange begins
 pub opened_exchange : {steps : List Step} {k : Client} {m : Current} {trail : Trail} {input pending : List ℕ} {waiting : List Note} {over : Bool} (aim : Aim) (r : HttpRequest) (back : BackView) {m' : Current}

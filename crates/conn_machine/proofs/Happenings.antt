@@ -73,14 +73,14 @@ longer_sent entry peer r row b u v e unsent is ask plan router looks_is picks_is
 
 -- an event on the link to the server
 pub opened_event : {steps : List Step} {k : Client} {m : Current} {trail : Trail} {input pending : List ℕ} {waiting : List Note} {over : Bool}
-    (e : LinkEvent) (status : ℕ) (cause : Cause) (more : List ℕ) (back : BackView) (content : List ℕ) (ended failed : Bool) {m' : Current} {pending' : List ℕ}
+    (e : LinkEvent) (status : ℕ) (cause : Cause) (more : List ℕ) (back : BackView) (content : List ℕ) (over_ fault_ : Bool) {m' : Current} {pending' : List ℕ}
     → IsAlike m m' → m'.router ≡ m.router → m'.status ≡ status → m'.cause ≡ cause → m'.link ≡ m.link → m'.back ≡ Some back → pending' ≡ pending ++ more
     → (o : Opened steps k m trail input pending waiting over Exchange)
-    → Exchanged (message_to (o.stage.turn.plan.target o.stage.holds.row) o.stage.holds.r) o.stage.holds.r.method (taken (o.stage.holds.link.events ++ e ∷ [])) (given (o.stage.holds.link.events ++ e ∷ [])) content ended failed back
-    → (ended ≡ true → ends (o.stage.holds.link.events ++ e ∷ []) ≢ []) → (failed ≡ true → o.stage.holds.link.faults ≢ [])
+    → Exchanged (message_to (o.stage.turn.plan.target o.stage.holds.row) o.stage.holds.r) o.stage.holds.r.method (taken (o.stage.holds.link.events ++ e ∷ [])) (given (o.stage.holds.link.events ++ e ∷ [])) content over_ fault_ back
+    → (over_ ≡ true → ends (o.stage.holds.link.events ++ e ∷ []) ≢ []) → (fault_ ≡ true → o.stage.holds.link.faults ≢ [])
     → Passing back.reply o.stage.holds.r (moved o.stage.turn (longer o.stage.holds.link e) status cause more) content pending'
     → Opened (steps ++ happened m.link e ∷ []) k m' trail input pending' waiting over Exchange
-opened_event {steps} {k} {m} {trail} {input} {pending} {waiting} {over} e status cause more back content ended failed {m'} {pending'} alike router status_is cause_is link_same back_is in_pending o exchanged ends_is fails_is passing =
+opened_event {steps} {k} {m} {trail} {input} {pending} {waiting} {over} e status cause more back content over_ fault_ {m'} {pending'} alike router status_is cause_is link_same back_is in_pending o exchanged ends_is fails_is passing =
     let t : Turning steps k m trail input pending waiting over (IsExchanging k.entry k.peer m pending o.done) = turning o o.stage in
     let x : IsExchanging k.entry k.peer m pending o.done o.stage.turn = o.stage.holds in
     let u : Turn = o.stage.turn in
@@ -133,8 +133,8 @@ opened_event {steps} {k} {m} {trail} {input} {pending} {waiting} {over} e status
         sent = is;
         number = x.number ∙ sym link_same;
         content = content;
-        ended = ended;
-        failed = failed;
+        ended = over_;
+        failed = fault_;
         exchanged = exchanged;
         ends_is = ends_is;
         fails_is = fails_is;
