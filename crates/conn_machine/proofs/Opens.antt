@@ -301,3 +301,8 @@ pub opened_at : {steps : List Step} {at : Stage} {c : Conn} → Waits at c → R
     → Opened steps c.client c.current (trail_of c) c.input.items (pending_of c) c.notes.items c.over at
 opened_at {steps} {c} w r =
     subst (λ (s : Stage). Opened steps c.client c.current (trail_of c) c.input.items (pending_of c) c.notes.items c.over s) w.stage (opened w.phase r)
+
+pub reached_at : {steps : List Step} {at : Stage} (d : Conn) → d.phase ≡ Open → d.stage ≡ at
+    → Opened steps d.client d.current (trail_of d) d.input.items (pending_of d) d.notes.items d.over at → Reached steps d
+reached_at {steps} d is at_is o =
+    reached_open d is (subst (λ (s : Stage). Opened steps d.client d.current (trail_of d) d.input.items (pending_of d) d.notes.items d.over s) (sym at_is) o)
