@@ -1,40 +1,33 @@
 -- A link to the server: how it is dialled, and what happens on it.
-use Rattle.std.proofs.Common.{◌≡◌, ◌≢◌, ◌⊎◌, inl, inr, ℕ, ◌+◌, ◌<◌, ◌≤◌, List, [], ◌∷◌, ◌++◌, length, take, drop, Option, Some, None, refl, sym, ◌∙◌, ap, subst, arith, Bool, true, false, ◌==◌}
-use Rattle.std.specs.List.{flat_map, AllByRecursion}
-use Rattle.std.specs.Prelude.{is_some}
-use Rattle.std.proofs.lemmas.Bool.{cases_eq}
-use Rattle.std.proofs.lemmas.List.{append-nil, append_assoc}
+use Rattle.std.proofs.Common.{◌≡◌, ◌≢◌, ℕ, ◌≤◌, List, [], ◌∷◌, ◌++◌, length, drop, Option, Some, None, refl, sym, ◌∙◌, ap, subst, Bool, true, false}
+use Rattle.std.specs.List.{AllByRecursion}
+use Rattle.std.proofs.lemmas.List.{append-nil}
 use Rattle.ip_net.specs.declared.ip.Ip.{Ip}
-use Rattle.http_wire.specs.Spelling.{request_text, reply_text}
 use Rattle.http_wire.specs.declared.message.Request.{Request as HttpRequest}
 use Rattle.http_wire.specs.declared.message.Reply.{Reply as HttpReply}
 use Rattle.link_world.specs.declared.note.Note.{Note}
-use Rattle.link_world.specs.declared.note.Look.{Look as LookNote}
-use Rattle.link_world.specs.declared.note.NodePick.{NodePick}
 use Rattle.link_world.specs.declared.note.Cause.{Cause}
-use Rattle.link_world.specs.declared.note.Cause.TheVariants.{Undecided, Passed}
-use Rattle.link_world.specs.Log.{LinkEvent, came, dialled, gave, gave_end, took, given, taken, ends, given_by, taken_by, only_if}
+use Rattle.link_world.specs.Log.{LinkEvent, came, dialled, given, taken, only_if}
 use Rattle.back_machine.specs.Exchanges.{BackView, Exchanged, StateHolds}
 use Rattle.back_machine.specs.declared.state.BackState.{BackState}
 use Rattle.back_machine.specs.declared.state.BackState.TheVariants as backs
-use Rattle.back_machine.specs.Forwarding.{forwarded, authority_text}
-use Rattle.conversation.specs.Plans.{Plan, Target}
+use Rattle.back_machine.specs.Forwarding.{forwarded}
+use Rattle.conversation.specs.Plans.{Target}
 use Rattle.conversation.specs.Asks.{asks}
-use Rattle.conversation.specs.Steps.{Step, happened, failed, history, failures, history_by, failures_by, IsNew}
-use Rattle.conversation.specs.Turns.{Stage as TurnStage, picked, sent, Turn, BackLink, closes, message_to, links_of, IsAt, IsRouted, IsSent, IsUndecided, Answers, AnswersBy, IsTold, IsLinkTold, PassesOn}
-use Rattle.conversation.specs.Served.{IsKept, IsAnswered}
-use Rattle.conversation.specs.Holding.{Told, told, Holds, Sound}
-use Rattle.conversation.proofs.Tellings.{told_elsewhere, told_failed, told_more, all_more, history_more, Apart, other_link, failures_happened, client_apart}
-use Rattle.conversation.proofs.Holdings.{holds_replied, given_more, taken_more}
-use Rattle.conn_machine.specs.Parts.{Trail, Tied, Fits, IsAim, IsElse, IsOpenAt, IsAimedAt, IsDialling, IsExchanging, Passing, issue_plan, AtTurn}
+use Rattle.conversation.specs.Steps.{Step, happened, history, IsNew}
+use Rattle.conversation.specs.Turns.{picked, sent, Turn, BackLink, message_to, links_of, IsAt, IsSent, IsUndecided, AnswersBy, IsTold, IsLinkTold}
+use Rattle.conversation.specs.Served.{IsAnswered}
+use Rattle.conversation.specs.Holding.{told}
+use Rattle.conversation.proofs.Tellings.{told_elsewhere, told_more, history_more, Apart, other_link, failures_happened}
+use Rattle.conversation.proofs.Holdings.{holds_replied}
+use Rattle.conn_machine.specs.Parts.{Trail, Fits, IsAim, IsElse, IsAimedAt, IsDialling, IsExchanging, Passing, issue_plan}
 use Rattle.conn_machine.specs.Reached.{Opened}
 use Rattle.conn_machine.specs.declared.parts.Aim.{Aim}
 use Rattle.conn_machine.specs.declared.parts.Asked.{Asked}
 use Rattle.conn_machine.specs.declared.parts.Asked.TheVariants.{Request}
 use Rattle.conn_machine.specs.declared.parts.Client.{Client}
 use Rattle.conn_machine.specs.declared.parts.Current.{Current}
-use Rattle.conn_machine.specs.declared.parts.Stage.{Stage}
-use Rattle.conn_machine.specs.declared.parts.Stage.TheVariants.{Dial, Dialled, Exchange, Reply}
+use Rattle.conn_machine.specs.declared.parts.Stage.TheVariants.{Dial, Dialled, Exchange}
 use Rattle.conn_machine.proofs.Opens.{holds_as}
 use Rattle.conn_machine.proofs.Turnings.{Turning, IsAlike, turning, at_turn, opened_turn}
 
@@ -115,7 +108,7 @@ opened_dialled {steps} {k} {m} {trail} {input} {pending} {waiting} {over} l aim 
       turn = v;
       rest = t.rest;
       holds = holds_as (told_elsewhere k.link l steps e away) refl refl refl refl refl refl refl alike.number alike.index
-        (holds_replied v [] (record { index = refl; item = refl; plan = refl; looks = refl; picks = refl; spents = refl }) (sym (append-nil u.reply)) (sym (append-nil pending)) t.holds);
+          (holds_replied v [] (record { index = refl; item = refl; plan = refl; looks = refl; picks = refl; spents = refl }) (sym (append-nil u.reply)) (sym (append-nil pending)) t.holds);
       sound = record {
         all = all_shown steps l e k.entry k.peer t.done apart t.sound.all;
         one = record {

@@ -1,31 +1,25 @@
 -- What happens on a link to the server, and how an exchange ends.
-use Rattle.std.proofs.Common.{◌≡◌, ◌≢◌, ◌⊎◌, inl, inr, ℕ, ◌+◌, ◌<◌, ◌≤◌, List, [], ◌∷◌, ◌++◌, length, take, drop, Option, Some, None, refl, sym, ◌∙◌, ap, subst, arith, Bool, true, false}
-use Rattle.std.specs.List.{flat_map, AllByRecursion}
-use Rattle.std.specs.Prelude.{is_some}
-use Rattle.std.proofs.lemmas.List.{append-nil, append_assoc}
+use Rattle.std.proofs.Common.{◌≡◌, ◌≢◌, ℕ, ◌≤◌, List, [], ◌∷◌, ◌++◌, length, take, drop, Option, Some, None, refl, sym, ◌∙◌, ap, subst, Bool, true, false}
+use Rattle.std.specs.List.{AllByRecursion}
+use Rattle.std.proofs.lemmas.List.{append-nil}
 use Rattle.ip_net.specs.declared.ip.Ip.{Ip}
-use Rattle.http_wire.specs.Spelling.{request_text, reply_text}
 use Rattle.http_wire.specs.declared.message.Request.{Request as HttpRequest}
 use Rattle.http_wire.specs.declared.message.Reply.{Reply as HttpReply}
 use Rattle.link_world.specs.declared.note.Note.{Note}
 use Rattle.link_world.specs.declared.note.Cause.{Cause}
-use Rattle.link_world.specs.declared.note.Cause.TheVariants.{Undecided, Passed}
-use Rattle.link_world.specs.Log.{LinkEvent, came, dialled, gave, gave_end, took, given, taken, ends, given_by, taken_by}
+use Rattle.link_world.specs.Log.{LinkEvent, took, given, taken, ends}
 use Rattle.back_machine.specs.Exchanges.{BackView, Exchanged, Receives}
-use Rattle.conversation.specs.Plans.{Plan, Target}
-use Rattle.conversation.specs.Steps.{Step, happened, failed, history, failures}
-use Rattle.conversation.specs.Turns.{Stage as TurnStage, sent, Turn, BackLink, closes, message_to, links_of, IsRouted, IsSent, IsUndecided, Answers, AnswersBy, IsTold, IsLinkTold, PassesOn}
-use Rattle.conversation.specs.Served.{IsKept, IsAnswered}
-use Rattle.conversation.specs.Holding.{told, Holds, Sound}
+use Rattle.conversation.specs.Plans.{Plan}
+use Rattle.conversation.specs.Steps.{Step, happened, history}
+use Rattle.conversation.specs.Turns.{sent, Turn, BackLink, message_to, links_of, IsSent, Answers, AnswersBy, IsTold, IsLinkTold}
 use Rattle.conversation.proofs.Tellings.{told_elsewhere, history_more, failures_happened, client_apart}
 use Rattle.conversation.proofs.Holdings.{holds_replied, given_more, taken_more, ends_more}
-use Rattle.conn_machine.specs.Parts.{Trail, Tied, Fits, IsElse, IsExchanging, Passing, AtTurn}
+use Rattle.conn_machine.specs.Parts.{Trail, Fits, IsElse, IsExchanging, Passing}
 use Rattle.conn_machine.specs.Reached.{Opened, pending_to}
 use Rattle.conn_machine.specs.declared.parts.Asked.{Asked}
 use Rattle.conn_machine.specs.declared.parts.Client.{Client}
 use Rattle.conn_machine.specs.declared.parts.Current.{Current}
-use Rattle.conn_machine.specs.declared.parts.Stage.{Stage}
-use Rattle.conn_machine.specs.declared.parts.Stage.TheVariants.{Exchange, Reply}
+use Rattle.conn_machine.specs.declared.parts.Stage.TheVariants.{Exchange}
 use Rattle.conn_machine.proofs.Opens.{holds_as}
 use Rattle.conn_machine.proofs.Exchanges.{all_shown}
 use Rattle.conn_machine.proofs.Turnings.{Turning, IsAlike, turning, at_turn, opened_turn}
@@ -93,7 +87,7 @@ opened_event {steps} {k} {m} {trail} {input} {pending} {waiting} {over} e status
       turn = v;
       rest = t.rest;
       holds = holds_as (told_elsewhere k.link m.link steps e (away t)) refl refl refl refl refl refl refl alike.number alike.index
-        (holds_replied v more (record { index = refl; item = refl; plan = refl; looks = refl; picks = refl; spents = refl }) refl in_pending t.holds);
+          (holds_replied v more (record { index = refl; item = refl; plan = refl; looks = refl; picks = refl; spents = refl }) refl in_pending t.holds);
       sound = record {
         all = all_shown steps m.link e k.entry k.peer o.done x.apart t.sound.all;
         one = record {
