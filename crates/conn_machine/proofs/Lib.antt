@@ -4,3 +4,5 @@ pub mod Starts
 pub mod Turnings
 pub mod Tells
 pub mod Walkings
+pub mod Exchanges
+pub mod Happenings

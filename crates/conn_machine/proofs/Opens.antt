@@ -19,7 +19,7 @@ use Rattle.conn_machine.specs.Reached.{Reached, Kept, Opened, PhaseHolds, ending
 use Rattle.conn_machine.specs.declared.parts.Client.{Client}
 use Rattle.conn_machine.specs.declared.parts.Current.{Current}
 use Rattle.conn_machine.specs.declared.parts.Stage.{Stage}
-use Rattle.conn_machine.specs.declared.parts.Stage.TheVariants.{Head, Pin, Route, Look, Down, Walk, Spent, Dial, Exchange, Reply}
+use Rattle.conn_machine.specs.declared.parts.Stage.TheVariants.{Head, Pin, Route, Look, Down, Walk, Spent, Dial, Dialled, Exchange, Reply}
 use Rattle.conn_machine.specs.declared.parts.Phase.{Phase}
 use Rattle.conn_machine.specs.declared.parts.Phase.TheVariants.{Open, Broken, Over}
 use Rattle.conn_machine.specs.declared.conn.Conn.{Conn}
@@ -138,6 +138,7 @@ stage_gave Dial k m input pending done last rest piece input' is h = turn_gave p
 stage_gave Exchange k m input pending done last rest piece input' is h = turn_gave piece is h
 stage_gave Down k m input pending done last rest piece input' is h = turn_gave piece is h
 stage_gave Spent k m input pending done last rest piece input' is h = turn_gave piece is h
+stage_gave Dialled k m input pending done last rest piece input' is h = turn_gave piece is h
 stage_gave Reply k m input pending done last rest piece input' is h = turn_gave piece is h
 
 pub opened_gave : {steps : List Step} {k : Client} {m : Current} {trail : Trail} {input pending : List ℕ} {waiting : List Note} {over : Bool} {at : Stage} (piece : List ℕ) {input' : List ℕ}
@@ -217,6 +218,22 @@ stage_took Route k m input pending done last rest n pending' is h = open_took n 
 stage_took Look k m input pending done last rest n pending' is h = aimed_took n is h
 stage_took Walk k m input pending done last rest n pending' is h = aimed_took n is h
 stage_took Dial k m input pending done last rest n pending' is h = aimed_took n is h
+stage_took Dialled k m input pending done last rest n pending' is h = turn_as h (record {
+  aimed = record {
+    open_at = record { undecided = h.holds.aimed.open_at.undecided; plan = h.holds.aimed.open_at.plan; none = drop_none n pending pending' h.holds.aimed.open_at.none is };
+    aim = h.holds.aimed.aim;
+    aim_is = h.holds.aimed.aim_is;
+    aims = h.holds.aimed.aims;
+  };
+  r = h.holds.r;
+  row = h.holds.row;
+  link = h.holds.link;
+  is_sent = h.holds.is_sent;
+  number = h.holds.number;
+  untaken = h.holds.untaken;
+  ungiven = h.holds.ungiven;
+  apart = h.holds.apart;
+})
 stage_took Exchange k m input pending done last rest n pending' is h = turn_as h (record {
   back = h.holds.back;
   back_is = h.holds.back_is;
@@ -284,3 +301,8 @@ pub opened_at : {steps : List Step} {at : Stage} {c : Conn} → Waits at c → R
     → Opened steps c.client c.current (trail_of c) c.input.items (pending_of c) c.notes.items c.over at
 opened_at {steps} {c} w r =
     subst (λ (s : Stage). Opened steps c.client c.current (trail_of c) c.input.items (pending_of c) c.notes.items c.over s) w.stage (opened w.phase r)
+
+pub reached_at : {steps : List Step} {at : Stage} (d : Conn) → d.phase ≡ Open → d.stage ≡ at
+    → Opened steps d.client d.current (trail_of d) d.input.items (pending_of d) d.notes.items d.over at → Reached steps d
+reached_at {steps} d is at_is o =
+    reached_open d is (subst (λ (s : Stage). Opened steps d.client d.current (trail_of d) d.input.items (pending_of d) d.notes.items d.over s) (sym at_is) o)

@@ -55,7 +55,7 @@ pub record Turning (steps : List Step) (k : Client) (m : Current) (trail : Trail
   pub asked : Fits m.asked turn.ask
   pub has : P turn
 
-pub turning : {steps : List Step} {k : Client} {m : Current} {trail : Trail} {input pending : List ℕ} {waiting : List Note} {over : Bool} {at : Stage} {P : Turn → Type 0}
+abbrev pub turning : {steps : List Step} {k : Client} {m : Current} {trail : Trail} {input pending : List ℕ} {waiting : List Note} {over : Bool} {at : Stage} {P : Turn → Type 0}
     (o : Opened steps k m trail input pending waiting over at) → AtTurn m input o.last o.rest P → Turning steps k m trail input pending waiting over P
 turning {steps} {k} {m} {trail} o h = record {
   done = o.done;
@@ -72,7 +72,7 @@ turning {steps} {k} {m} {trail} o h = record {
   has = h.holds;
 }
 
-pub at_turn : {steps : List Step} {k : Client} {m : Current} {trail : Trail} {input pending : List ℕ} {waiting : List Note} {over : Bool} {P : Turn → Type 0}
+abbrev pub at_turn : {steps : List Step} {k : Client} {m : Current} {trail : Trail} {input pending : List ℕ} {waiting : List Note} {over : Bool} {P : Turn → Type 0}
     (t : Turning steps k m trail input pending waiting over P) → AtTurn m input (Some t.turn) t.rest P
 at_turn t = record { turn = t.turn; last_is = refl; pinned = t.pinned; rest_is = t.rest_is; fits = t.fits; asked = t.asked; holds = t.has }
 

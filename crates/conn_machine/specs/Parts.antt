@@ -18,10 +18,12 @@ use Rattle.link_world.specs.declared.note.EndCause.TheVariants as ending
 use Rattle.conversation.specs.Plans.{Plan, Target}
 use Rattle.link_world.specs.Log.{given, taken, ends}
 use Rattle.conversation.specs.Asks.{Ask, asks, IsItem, refusal}
-use Rattle.conversation.specs.Turns.{Stage as TurnStage, Turn, BackLink, links_of, ends_asked, closes, message_to, IsUndecided, unrouted, routed, down, up, refused, picked, IsSent}
+use Rattle.conversation.specs.Turns.{Stage as TurnStage, Turn, BackLink, links_of, ends_asked, closes, message_to, IsUndecided, unrouted, routed, down, up, refused, picked, sent, IsSent}
 use Rattle.generation.specs.declared.generation.Generation.{Generation}
 use Rattle.generation.specs.Meaning.{plan_of}
 use Rattle.back_machine.specs.Exchanges.{BackView, Exchanged}
+use Rattle.back_machine.specs.Forwarding.{forwarded}
+use Rattle.back_machine.specs.declared.state.BackState.TheVariants as backs
 use Rattle.http_wire.specs.Spelling.{reply_text}
 use Rattle.http_wire.specs.declared.message.Reply.{Reply as HttpReply}
 use Rattle.conn_machine.specs.declared.parts.Aim.{Aim}
@@ -30,7 +32,7 @@ use Rattle.conn_machine.specs.declared.parts.Asked.TheVariants.{Nothing, Request
 use Rattle.conn_machine.specs.declared.parts.Client.{Client}
 use Rattle.conn_machine.specs.declared.parts.Current.{Current}
 use Rattle.conn_machine.specs.declared.parts.Stage.{Stage}
-use Rattle.conn_machine.specs.declared.parts.Stage.TheVariants.{Head, Pin, Route, Look as Looking, Down, Walk, Spent, Dial, Exchange, Reply}
+use Rattle.conn_machine.specs.declared.parts.Stage.TheVariants.{Head, Pin, Route, Look as Looking, Down, Walk, Spent, Dial, Dialled, Exchange, Reply}
 use Rattle.http_wire.specs.declared.message.Request.{Request as HttpRequest}
 use Rattle.conn_machine.specs.declared.pins.Routed.{Routed}
 use Rattle.conn_machine.specs.declared.pins.Routed.TheVariants as route
@@ -166,6 +168,18 @@ abbrev pub IsElse : ℕ → Option BackLink → Type 0
 IsElse link None = Unit {0}
 IsElse link (Some b) = b.link ≢ link
 
+-- the link was dialled, and nothing else happened on it
+pub record IsDialling (entry : List ℕ) (peer : Ip) (m : Current) (pending : List ℕ) (done : List Turn) (t : Turn) : Type 0 where
+  pub aimed : IsAimedAt entry peer m pending sent t
+  pub r : HttpRequest
+  pub row : ℕ
+  pub link : BackLink
+  pub is_sent : IsSent entry peer r row link t
+  pub number : link.link ≡ m.link
+  pub untaken : taken link.events ≡ []
+  pub ungiven : given link.events ≡ []
+  pub apart : AllByRecursion (λ (u : Turn). IsElse m.link u.back) done
+
 -- what of the reply has come: nothing yet, or this reply with this content
 abbrev pub Passing : Option HttpReply → HttpRequest → Turn → (content pending : List ℕ) → Type 0
 Passing None r t content pending = (t.cause ≡ causes.Undecided) × (t.status ≡ 0) × (t.reply ≡ []) × (t.whole ≡ false) × (pending ≡ [])
@@ -190,6 +204,12 @@ pub record IsExchanging (entry : List ℕ) (peer : Ip) (m : Current) (pending : 
   pub passing : Passing back.reply r t content pending
   pub apart : AllByRecursion (λ (u : Turn). IsElse m.link u.back) done
 
+-- the exchange of this request with this server, of which nothing happened yet
+abbrev pub HasBegun : Asked → Option Aim → BackView → Type 0
+HasBegun asked aim back =
+    (r : HttpRequest) × (a : Aim) × (asked ≡ Request r) × (aim ≡ Some a) × (back.state ≡ backs.Waiting)
+    × Exchanged (forwarded r a.server a.pass_host) r.method [] [] [] false false back
+
 abbrev pub AtStage : Stage → Client → Current → (input pending : List ℕ) → List Turn → Option Turn → List ℕ → Type 0
 AtStage Head k m input pending done last rest = AtHead m input pending last rest
 AtStage Pin k m input pending done last rest = AtPin k.peer m input pending last rest
@@ -199,5 +219,6 @@ AtStage Down k m input pending done last rest = AtTurn m input last rest (IsAime
 AtStage Walk k m input pending done last rest = AtTurn m input last rest (IsAimedAt k.entry k.peer m pending up)
 AtStage Spent k m input pending done last rest = AtTurn m input last rest (IsAimedAt k.entry k.peer m pending refused)
 AtStage Dial k m input pending done last rest = AtTurn m input last rest (IsAimedAt k.entry k.peer m pending picked)
+AtStage Dialled k m input pending done last rest = AtTurn m input last rest (IsDialling k.entry k.peer m pending done)
 AtStage Exchange k m input pending done last rest = AtTurn m input last rest (IsExchanging k.entry k.peer m pending done)
 AtStage Reply k m input pending done last rest = AtTurn m input last rest (λ t. t.whole ≡ true)

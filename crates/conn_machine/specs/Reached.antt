@@ -1,5 +1,5 @@
 -- The machine, and the relation with the steps that it was told, which each call keeps.
-use Rattle.std.specs.Prelude.{◌≡◌, ◌≢◌, ◌⊎◌, ℕ, ◌+◌, ◌<◌, ◌≤◌, List, [], ◌∷◌, drop, Bool, true, false, Option, Some, vec_len, vec_capacity}
+use Rattle.std.specs.Prelude.{◌≡◌, ◌≢◌, ◌⊎◌, ℕ, ◌+◌, ◌<◌, ◌≤◌, List, [], ◌∷◌, drop, Bool, true, false, Option, Some, None, Some, vec_len, vec_capacity}
 use Rattle.std.specs.List.{AllByRecursion}
 use Rattle.link_world.specs.declared.note.Note.{Note}
 use Rattle.link_world.specs.declared.note.NoteBody.{NoteBody}
@@ -10,6 +10,7 @@ use Rattle.conversation.specs.Turns.{Turn}
 use Rattle.conversation.specs.Served.{of_last, notes_of, IsKept, EndHolds, end_note}
 use Rattle.conversation.specs.Holding.{told, Holds, Sound}
 use Rattle.conn_machine.specs.Parts.{Trail, TiedBy, AtStage}
+use Rattle.back_machine.specs.Exchanges.{BackView}
 use Rattle.conn_machine.specs.declared.parts.Aim.{Aim}
 use Rattle.conn_machine.specs.declared.parts.Client.{Client}
 use Rattle.conn_machine.specs.declared.parts.Current.{Current}
@@ -102,12 +103,22 @@ WantsNode c node = (a : Aim) → c.current.aim ≡ Some a → node ≡ a.node
 abbrev pub WaitsOver : Stage → Conn → Type 0
 WaitsOver at c = Waits at c ⊎ IsEnding c.phase
 
+-- what of its message the link to the server hasn't taken
+abbrev pub pending_to : Option BackView → List ℕ
+pending_to None = []
+pending_to (Some b) = b.pending
+
+abbrev pub back_pending_of : Conn → List ℕ
+back_pending_of c = pending_to c.current.back
+
 -- what it waits for, and so which calls may come
 abbrev pub IsWant : Want → Conn → Type 0
 IsWant want.Bytes c = Waits stage.Head c
 IsWant want.Pin c = Waits stage.Pin c
 IsWant (want.Look node) c = Waits stage.Look c × WantsNode c node
 IsWant (want.Walk node) c = Waits stage.Walk c × WantsNode c node
+IsWant want.Dial c = Waits stage.Dial c
+IsWant (want.Exchange link) c = Waits stage.Exchange c × (link ≡ c.current.link)
 IsWant want.Links c = c.phase ≡ Open
 IsWant want.Ended c = c.phase ≢ Open
 

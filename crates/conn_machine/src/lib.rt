@@ -2,11 +2,13 @@
 #![tactic(auto)]
 
 mod conn;
+mod exchange;
 mod heads;
 mod notes;
 mod own;
 mod parts;
 mod pins;
+mod relay;
 mod replies;
 #[cfg(test)]
 mod tests;

@@ -72,6 +72,8 @@ pub enum Stage {
     Spent,
     /// A link to the server.
     Dial,
+    /// Nothing: a link was dialled.
+    Dialled,
     /// The server.
     Exchange,
     /// The client, to take the reply.

@@ -15,7 +15,11 @@ pub enum Want {
     Look { node: u32 },
     /// A pick of this balancer, for `drew` or `spent`.
     Walk { node: u32 },
-    /// Its links.
+    /// A link to the server where `aim` says, for `dialled`.
+    Dial,
+    /// Its links: the client's, and this one to the server.
+    Exchange { link: u32 },
+    /// Its link.
     Links,
     /// Nothing: it ends, or must be given up.
     Ended,
@@ -37,6 +41,10 @@ impl Conn {
                 Stage::Walk => match &self.current.aim {
                     Some(aim) => Want::Walk { node: aim.node },
                     None => Want::Links,
+                },
+                Stage::Dial => Want::Dial,
+                Stage::Exchange => Want::Exchange {
+                    link: self.current.link,
                 },
                 _ => Want::Links,
             },
