@@ -8,6 +8,7 @@ use Rattle.http_wire.specs.declared.message.Reply.{Reply as HttpReply}
 use Rattle.link_world.specs.declared.note.Note.{Note}
 use Rattle.link_world.specs.declared.note.Cause.{Cause}
 use Rattle.link_world.specs.Log.{LinkEvent, took, given, taken, ends}
+use Rattle.back_machine.specs.Replies.{HasReply}
 use Rattle.back_machine.specs.Exchanges.{BackView, Exchanged, Receives}
 use Rattle.conversation.specs.Plans.{Plan}
 use Rattle.conversation.specs.Steps.{Step, happened, history}
@@ -25,13 +26,13 @@ use Rattle.conn_machine.proofs.Exchanges.{all_shown}
 use Rattle.conn_machine.proofs.Turnings.{Turning, IsAlike, turning, at_turn, opened_turn}
 
 -- a request on its way has the answer that its cause says
-on_its_way : (o : Option HttpReply) (entry : List ℕ) (peer : Ip) (r : HttpRequest) (row : ℕ) (b : BackLink) (t : Turn) (content pending : List ℕ)
+pub on_its_way : (o : Option HttpReply) (entry : List ℕ) (peer : Ip) (r : HttpRequest) (row : ℕ) (b : BackLink) (t : Turn) (content pending : List ℕ)
     → IsSent entry peer r row b t → Receives r.method (given b.events) content o → Passing o r t content pending → Answers entry peer t
 on_its_way None entry peer r row b t content pending is received h =
     subst (λ (c : Cause). AnswersBy c entry peer t) (sym h.0) (sent, record { cause = h.0; stage = (r, row, b, is); status = h.1; reply = h.2; unfinished = h.3 })
 on_its_way (Some a) entry peer r row b t content pending is received h =
     subst (λ (c : Cause). AnswersBy c entry peer t) (sym h.0)
-    (r, row, b, is, record { answer = a; content = content; gave = received; status = h.1; text = h.2; all = λ (e : t.whole ≡ true). absurd (let n : false ≡ true = sym h.3 ∙ e in let f : ⊥ = cc in f) })
+    (r, row, b, is, record { answer = a; content = content; held = []; gave = subst (λ (l : List ℕ). HasReply r.method (given b.events) a l) (sym (append-nil content)) received; status = h.1; text = h.2; all = λ (e : t.whole ≡ true). absurd (let n : false ≡ true = sym h.3 ∙ e in let f : ⊥ = cc in f) })
 
 -- the request after one more event on its link
 abbrev pub moved : Turn → BackLink → ℕ → Cause → List ℕ → Turn
@@ -40,16 +41,16 @@ moved u b status cause more = record u { back = Some b; status = status; cause =
 abbrev pub longer : BackLink → LinkEvent → BackLink
 longer b e = record b { events = b.events ++ e ∷ [] }
 
-told_link : (steps : List Step) (o : Option BackLink) (b : BackLink) → o ≡ Some b → IsLinkTold steps o → IsTold steps b
+pub told_link : (steps : List Step) (o : Option BackLink) (b : BackLink) → o ≡ Some b → IsLinkTold steps o → IsTold steps b
 told_link steps o b is h = subst (λ (x : Option BackLink). IsLinkTold steps x) is h
 
 -- the link is another one than the client's
-away : {steps : List Step} {k : Client} {m : Current} {trail : Trail} {input pending : List ℕ} {waiting : List Note} {over : Bool} {done : List Turn}
+pub away : {steps : List Step} {k : Client} {m : Current} {trail : Trail} {input pending : List ℕ} {waiting : List Note} {over : Bool} {done : List Turn}
     (t : Turning steps k m trail input pending waiting over (IsExchanging k.entry k.peer m pending done)) → k.link ≢ m.link
 away {steps} {k} t same =
     client_apart k.link steps k.entry k.peer t.holds.arrived.0 t.has.link t.holds.arrived.1 (told_link steps t.turn.back t.has.link t.has.sent.back t.sound.one.shown) (t.has.number ∙ sym same)
 
-longer_sent : (entry : List ℕ) (peer : Ip) (r : HttpRequest) (row : ℕ) (b : BackLink) (u v : Turn) (e : LinkEvent) (unsent : List ℕ) → IsSent entry peer r row b u
+pub longer_sent : (entry : List ℕ) (peer : Ip) (r : HttpRequest) (row : ℕ) (b : BackLink) (u v : Turn) (e : LinkEvent) (unsent : List ℕ) → IsSent entry peer r row b u
     → v.ask ≡ u.ask → v.plan ≡ u.plan → v.router ≡ u.router → v.looks ≡ u.looks → v.picks ≡ u.picks → v.spents ≡ u.spents → v.back ≡ Some (longer b e)
     → message_to (u.plan.target row) r ≡ taken (b.events ++ e ∷ []) ++ unsent
     → IsSent entry peer r row (longer b e) v

@@ -6,3 +6,4 @@ pub mod Tells
 pub mod Walkings
 pub mod Exchanges
 pub mod Happenings
+pub mod Passings

@@ -1,8 +1,18 @@
 -- What a piece of a link to the server adds to the reply.
-use Rattle.std.specs.Prelude.{◌≡◌, ℕ, Bool, true, false, List, [], ◌++◌, Option, Some, None, is_some}
+use Rattle.std.specs.Prelude.{◌≡◌, ◌≢◌, ℕ, Bool, true, false, List, [], ◌++◌, Option, Some, None, is_some}
 use Rattle.http_wire.specs.Spelling.{reply_text}
 use Rattle.http_wire.specs.declared.message.Reply.{Reply}
+use Rattle.http_wire.specs.declared.message.Request.{Request as HttpRequest}
+use Rattle.link_world.specs.declared.note.Cause.{Cause}
+use Rattle.link_world.specs.declared.note.Cause.TheVariants as causes
 use Rattle.back_machine.specs.Exchanges.{BackView, Exchanged}
+use Rattle.back_machine.specs.declared.state.BackState.TheVariants.{Done, Broken}
+use Rattle.back_machine.specs.declared.state.BackCause.{BackCause}
+use Rattle.back_machine.specs.declared.state.BackCause.TheVariants.{Failed, Bad, Ended}
+use Rattle.conn_machine.specs.declared.parts.Asked.{Asked}
+use Rattle.conn_machine.specs.declared.parts.Asked.TheVariants.{Request}
+use Rattle.conn_machine.specs.declared.passing.Outcome.{Outcome}
+use Rattle.conn_machine.specs.declared.passing.Outcome.TheVariants as out
 
 -- the head, where it wasn't whole before and is now
 abbrev pub new_head : Bool → Option Reply → ℕ → Bool → List ℕ
@@ -16,3 +26,20 @@ Relays b c piece version close out new_out =
     (message method took gave content : List ℕ) → Exchanged message method took gave content false false b
     → (fresh : List ℕ) × Exchanged message method took (gave ++ piece) (content ++ fresh) false false c
     × (new_out ≡ (out ++ new_head (is_some b.reply) c.reply version close) ++ fresh)
+
+-- how far an exchange is
+abbrev pub IsOutcome : Outcome → Option BackView → Type 0
+IsOutcome out.Going o = Unit {0}
+IsOutcome out.Whole o = (b : BackView) × (o ≡ Some b) × (b.state ≡ Done)
+IsOutcome out.Cut o = (b : BackView) × (cause : BackCause) × (o ≡ Some b) × (b.state ≡ Broken cause) × (b.reply ≢ None)
+IsOutcome (out.Lost cause) o = (b : BackView) × (o ≡ Some b) × (b.state ≡ Broken cause) × (b.reply ≡ None)
+
+-- why a request whose server gave no reply is answered
+abbrev pub lost_cause : BackCause → ℕ → Cause
+lost_cause Failed link = causes.BackFailed link
+lost_cause Bad link = causes.BackBad link
+lost_cause Ended link = causes.BackBad link
+
+-- the version of what was asked
+abbrev pub IsVersion : Asked → ℕ → Type 0
+IsVersion asked version = (r : HttpRequest) → asked ≡ Request r → version ≡ r.version

@@ -7,6 +7,7 @@ mod heads;
 mod notes;
 mod own;
 mod parts;
+mod passing;
 mod pins;
 mod relay;
 mod replies;

@@ -39,7 +39,7 @@ ends_more h e some none = some (front (ends h) (ends (e ∷ [])) (sym (flat_map-
     front [] ys is = refl
     front (x ∷ xs) ys is = cc
 
-ends_end : (h : List LinkEvent) → ends (h ++ gave_end ∷ []) ≢ []
+pub ends_end : (h : List LinkEvent) → ends (h ++ gave_end ∷ []) ≢ []
 ends_end h none = some (ends h) (sym (flat_map-append end_by h (gave_end ∷ [])) ∙ none)
   where
     some : (xs : List (Unit {0})) → xs ++ tt ∷ [] ≢ []

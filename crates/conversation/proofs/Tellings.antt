@@ -91,6 +91,12 @@ told_spent link steps n =
     five _ _ _ _ _ _ _ _ _ _ (history_quiet link steps (spent n) refl) (quiet pins_by steps (spent n) refl) (quiet looks_by steps (spent n) refl)
     (quiet picks_by steps (spent n) refl) (snoc spents_by steps (spent n))
 
+pub failures_failed : (link : ℕ) (steps : List Step) → failures link (steps ++ failed link ∷ []) ≡ failures link steps ++ tt ∷ []
+failures_failed link steps = snoc (failures_by link) steps (failed link) ∙ ap (λ b. failures link steps ++ only_if b (tt ∷ [])) (same_link link)
+
+pub history_failed : (link l : ℕ) (steps : List Step) → history link (steps ++ failed l ∷ []) ≡ history link steps
+history_failed link l steps = history_quiet link steps (failed l) refl
+
 pub failures_more : (link : ℕ) (steps : List Step) → failures link (steps ++ failed link ∷ []) ≢ []
 failures_more link steps none = some (failures link steps) (sym same ∙ none)
   where
@@ -99,7 +105,7 @@ failures_more link steps none = some (failures link steps) (sym same ∙ none)
     some (x ∷ xs) is = cc
 
     same : failures link (steps ++ failed link ∷ []) ≡ failures link steps ++ tt ∷ []
-    same = snoc (failures_by link) steps (failed link) ∙ ap (λ b. failures link steps ++ only_if b (tt ∷ [])) (same_link link)
+    same = failures_failed link steps
 
 pub stops_more : (steps : List Step) → stops (steps ++ stopped ∷ []) ≢ []
 stops_more steps none = some (stops steps) (sym (snoc stops_by steps stopped) ∙ none)
@@ -170,7 +176,7 @@ client_apart link steps entry peer more b arrived r same =
 apart_happened : (l link : ℕ) (e : LinkEvent) → l ≢ link → Apart (happened link e) l
 apart_happened l link e differs = record { events = ap (λ b. only_if b (e ∷ [])) (other_link l link differs); faults = refl }
 
-apart_failed : (l link : ℕ) → l ≢ link → Apart (failed link) l
+pub apart_failed : (l link : ℕ) → l ≢ link → Apart (failed link) l
 apart_failed l link differs = record { events = refl; faults = ap (λ b. only_if b (tt ∷ [])) (other_link l link differs) }
 
 pub sound_happened : (link : ℕ) (steps : List Step) (e : LinkEvent) (entry : List ℕ) (peer : Ip) (done : List Turn) (last : Option Turn)

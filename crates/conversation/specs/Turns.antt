@@ -185,11 +185,12 @@ abbrev pub HasGivenNone : List ℕ → Ip → ℕ → Turn → Type 0
 HasGivenNone entry peer link t = (r : Request) × (row : ℕ) × (b : BackLink) × IsSent entry peer r row b t
     × (b.link ≡ link) × (HasNoReply r.method (given b.events) ⊎ ((ends b.events ≢ []) × HasNoReplyYet r.method (given b.events)))
 
--- the link gave this reply, and the client gets its head and as much of its content as came
+-- the link gave this reply, and the client gets its head and a front of the content that came
 pub record PassesOn (r : Request) (b : BackLink) (t : Turn) : Type 0 where
   pub answer : Reply
   pub content : List ℕ
-  pub gave : HasReply r.method (given b.events) answer content
+  pub held : List ℕ
+  pub gave : HasReply r.method (given b.events) answer (content ++ held)
   pub status : t.status ≡ answer.status
   pub text : t.reply ≡ reply_text answer r.version (closes t) ++ content
   pub all : t.whole ≡ true → IsWhole answer content
