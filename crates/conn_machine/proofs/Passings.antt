@@ -27,7 +27,7 @@ use Rattle.conversation.specs.Holding.{told}
 use Rattle.conversation.proofs.Tellings.{told_elsewhere, history_more, failures_happened, told_failed, told_more, apart_failed, history_failed, failures_failed}
 use Rattle.conversation.proofs.Holdings.{holds_replied, given_more, taken_more, ends_more, ends_end}
 use Rattle.conn_machine.specs.Parts.{Trail, TiedBy, Fits, IsElse, IsExchanging, Passing, end_by, refused_status}
-use Rattle.conn_machine.specs.Relays.{Relays, new_head, IsVersion, IsOutcome, lost_cause}
+use Rattle.conn_machine.specs.Relays.{Relays, new_head, IsVersion, IsOutcome, lost_cause, heard_status, heard_cause}
 use Rattle.conn_machine.specs.Reached.{Reached, Opened, PhaseHolds, ending_note, closed_by, trail_of}
 use Rattle.conn_machine.specs.declared.parts.Asked.{Asked}
 use Rattle.conn_machine.specs.declared.parts.Asked.TheVariants.{Nothing, Request, Refused}
@@ -189,6 +189,10 @@ abbrev pub HeardBy : Option HttpReply → ℕ → Cause → ℕ → Cause → Ty
 HeardBy None s c status cause = (status ≡ s) × (cause ≡ c)
 HeardBy (Some a) s c status cause = (status ≡ a.status) × (cause ≡ causes.Passed)
 
+heard_by : (q : Option HttpReply) (s : ℕ) (c : Cause) {status : ℕ} {cause : Cause} → status ≡ heard_status q s → cause ≡ heard_cause q c → HeardBy q s c status cause
+heard_by None s c a b = (a, b)
+heard_by (Some y) s c a b = (a, b)
+
 in_use : (s : BackState) (method g content : List ℕ) (e f : Bool) (b : BackView) → IsOpen s → StateHolds s method g content e f b → InUse e f
 in_use state.Waiting method g content e f b open_ h = h.0
 in_use state.HeadRead method g content e f b open_ h = h.0
@@ -229,10 +233,10 @@ heard_as q s s' c c' status cause a b h = rw (← a, ← b) h
 -- the link gave bytes
 pub opened_heard : {steps : List Step} {k : Client} {m : Current} {trail : Trail} {input pending : List ℕ} {waiting : List Note} {over : Bool} (piece : List ℕ) (old back : BackView) (version : ℕ) (close : Bool) (n : ℕ) (out out' : List ℕ) {m' : Current} {pending' : List ℕ} → Laws
     → IsAlike m m' → m'.router ≡ m.router → m'.link ≡ m.link → m'.back ≡ Some back → m.back ≡ Some old
-    → HeardBy back.reply m.status m.cause m'.status m'.cause → IsVersion m.asked version → close ≡ is_some (end_by m.index m.asked)
+    → m'.status ≡ heard_status back.reply m.status → m'.cause ≡ heard_cause back.reply m.cause → IsVersion m.asked version → close ≡ is_some (end_by m.index m.asked)
     → IsOpen old.state → Relays old back piece version close out out' → n ≤ length out → drop n out ≡ pending → pending' ≡ drop n out'
     → Opened steps k m trail input pending waiting over Exchange → Opened (steps ++ happened m.link (gave piece) ∷ []) k m' trail input pending' waiting over Exchange
-opened_heard {steps} {k} {m} {trail} {input} {pending} {waiting} {over} piece old back version close n out out' {m'} {pending'} laws alike router link_same back_is old_is heard version_is close_is open_is relays fits out_is in_pending o =
+opened_heard {steps} {k} {m} {trail} {input} {pending} {waiting} {over} piece old back version close n out out' {m'} {pending'} laws alike router link_same back_is old_is status_is cause_is version_is close_is open_is relays fits out_is in_pending o =
     let t : Turning steps k m trail input pending waiting over (IsExchanging k.entry k.peer m pending o.done) = turning o o.stage in
     let x : IsExchanging k.entry k.peer m pending o.done o.stage.turn = o.stage.holds in
     let u : Turn = o.stage.turn in
@@ -253,7 +257,7 @@ opened_heard {steps} {k} {m} {trail} {input} {pending} {waiting} {over} piece ol
     (λ (e : false ≡ true). no_truth e) (λ (e : false ≡ true). no_truth e)
     (passing_more laws old.reply back.reply x.r u (longer x.link (gave piece)) m'.status m'.cause (given x.link.events) piece x.content y.0 pending pending' version close before.received y.1.received passing
     (version_fits m.asked u.ask x.r version t.asked x.sent.won.asked version_is) closing
-    (heard_as back.reply m.status u.status m.cause u.cause m'.status m'.cause (sym t.tied.status) (sym t.tied.cause) heard) pending_is)
+    (heard_as back.reply m.status u.status m.cause u.cause m'.status m'.cause (sym t.tied.status) (sym t.tied.cause) (heard_by back.reply m.status m.cause status_is cause_is)) pending_is)
 
 -- the link gave its end
 pub opened_back_end : {steps : List Step} {k : Client} {m : Current} {trail : Trail} {input pending : List ℕ} {waiting : List Note} {over : Bool} (old back : BackView) {m' : Current}
@@ -310,6 +314,7 @@ pub opened_back_failed : {steps : List Step} {k : Client} {m : Current} {trail :
     → IsAlike m m' → m'.router ≡ m.router → m'.status ≡ m.status → m'.cause ≡ m.cause → m'.link ≡ m.link → m'.back ≡ Some back → m.back ≡ Some old → back.reply ≡ old.reply
     → ((message method took gave content : List ℕ) (ended failed : Bool) → Exchanged message method took gave content ended failed old → Exchanged message method took gave content ended true back)
     → Opened steps k m trail input pending waiting over Exchange → Opened (steps ++ failed m.link ∷ []) k m' trail input pending waiting over Exchange
+unfolding turned
 opened_back_failed {steps} {k} {m} {trail} {input} {pending} {waiting} {over} old back {m'} alike router status cause link_same back_is old_is reply_same step o =
     let t : Turning steps k m trail input pending waiting over (IsExchanging k.entry k.peer m pending o.done) = turning o o.stage in
     let x : IsExchanging k.entry k.peer m pending o.done o.stage.turn = o.stage.holds in

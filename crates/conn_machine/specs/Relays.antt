@@ -27,6 +27,15 @@ Relays b c piece version close out new_out =
     → (fresh : List ℕ) × Exchanged message method took (gave ++ piece) (content ++ fresh) false false c
     × (new_out ≡ (out ++ new_head (is_some b.reply) c.reply version close) ++ fresh)
 
+-- the status and the cause of a request, once there is a reply
+abbrev pub heard_status : Option Reply → ℕ → ℕ
+heard_status None status = status
+heard_status (Some a) status = a.status
+
+abbrev pub heard_cause : Option Reply → Cause → Cause
+heard_cause None cause = cause
+heard_cause (Some a) cause = causes.Passed
+
 -- how far an exchange is
 abbrev pub IsOutcome : Outcome → Option BackView → Type 0
 IsOutcome out.Going o = Unit {0}

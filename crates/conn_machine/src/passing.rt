@@ -4,7 +4,7 @@ ghost use Rattle.link_world.specs.Log.{gave, gave_end};
 ghost use Rattle.http_wire.specs.declared.message.Request.{Request as HttpRequest};
 ghost use Rattle.conversation.specs.Steps.{Step, happened, failed};
 ghost use Rattle.conn_machine.specs.Reached.{Reached, IsGoing, Waits};
-ghost use Rattle.conn_machine.specs.Relays.{IsOutcome, IsVersion, lost_cause};
+ghost use Rattle.conn_machine.specs.Relays.{IsOutcome, IsVersion, heard_status, heard_cause, lost_cause};
 
 use crate::conn::Conn;
 use crate::own::own_text;
@@ -87,10 +87,8 @@ impl Conn {
         match &mut self.current.back {
             Some(back) => {
                 relay(alloc, back, piece, version, close, &mut self.out)?;
-                if let Some(reply) = back.reply() {
-                    self.current.status = reply.status;
-                    self.current.cause = Cause::Passed;
-                }
+                self.current.status = status_by(back, self.current.status);
+                self.current.cause = cause_by(back, self.current.cause);
             }
             None => return Err(AllocError),
         }
@@ -195,6 +193,26 @@ fn outcome_of(back: &Option<Back>) -> Outcome
                 None => Outcome::Lost(cause),
             },
         },
+    }
+}
+
+// The status, once there is a reply.
+fn status_by(back: &Back, status: u16) -> u16
+    ensures { result ≡ heard_status back.now.reply status }
+{
+    match back.reply() {
+        Some(reply) => reply.status,
+        None => status,
+    }
+}
+
+// The cause, once there is a reply.
+fn cause_by(back: &Back, cause: Cause) -> Cause
+    ensures { result ≡ heard_cause back.now.reply cause }
+{
+    match back.reply() {
+        Some(_) => Cause::Passed,
+        None => cause,
     }
 }
 

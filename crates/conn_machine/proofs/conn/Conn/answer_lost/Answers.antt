@@ -1,0 +1,14 @@
+use Rattle.std.proofs.Common.{refl, ap, ◌∙◌, ◌++◌, ℕ, List}
+use Rattle.std.specs.Prelude.{is_some}
+use Rattle.conn_machine.proofs.Opens.{opened_at, reached_open}
+use Rattle.conn_machine.proofs.Passings.{opened_no_reply}
+use Rattle.conn_machine.proofs.conn.Conn.answer_lost.Goals as goal
+
+pub returns-clause-reached : goal.returns-clause-reached
+returns-clause-reached c = λ steps r.
+    reached_open _ refl (opened_no_reply c.args.cause c.is_some-close.result c.in_ok-own_text.ensures.0
+    (record { asked = refl; size = refl; issue = refl; pinned = refl; index = refl; number = refl }) refl refl c.cause_of-self.ensures
+    (c.in_ok-own_text.ensures.2 ∙ ap (λ (l : List ℕ). l ++ c.in_ok-own_text.ensures.0) c.clear.ensures.items)
+    c.requires.lost
+    (c.is_some-close.ensures ∙ ap is_some c.end_after.ensures.end) c.in_ok-own_text.ensures.1
+    (opened_at c.requires.waits r))

@@ -1,0 +1,4 @@
+use Rattle.conn_machine.proofs.conn.Conn.back_end.Goals as goal
+
+pub returns-clause-reached : goal.returns-clause-reached
+returns-clause-reached c = λ steps r. c.conclude.ensures.reached _ (c.note_end.ensures.reached steps r)
