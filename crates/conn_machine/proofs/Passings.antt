@@ -12,20 +12,20 @@ use Rattle.link_world.specs.declared.note.Cause.{Cause}
 use Rattle.link_world.specs.declared.note.Cause.TheVariants as causes
 use Rattle.link_world.specs.declared.note.EndCause.TheVariants as ending
 use Rattle.link_world.specs.Log.{LinkEvent, gave, gave_end, given, taken, ends}
-use Rattle.back_machine.specs.Replies.{IsReplyAt, HasReply, HasNoReply, HasNoReplyYet, IsWhole, content_length}
-use Rattle.back_machine.specs.Exchanges.{BackView, Exchanged, Receives, IsOpen, InUse, Ends, StateHolds, Breaks}
+use Rattle.back_machine.specs.Replies.{IsReplyAt, HasReply, HasNoReplyYet, IsWhole, content_length}
+use Rattle.back_machine.specs.Exchanges.{BackView, Exchanged, Receives, IsOpen, InUse, Ends, StateHolds}
 use Rattle.back_machine.specs.declared.state.BackState.{BackState}
 use Rattle.back_machine.specs.declared.state.BackState.TheVariants as state
 use Rattle.back_machine.specs.declared.state.BackCause.{BackCause}
 use Rattle.back_machine.specs.declared.state.BackCause.TheVariants as why
 use Rattle.conversation.specs.Plans.{Plan}
 use Rattle.conversation.specs.Asks.{Ask, asks, refusal}
-use Rattle.conversation.specs.Steps.{Step, happened, failed, history, failures, stops}
-use Rattle.conversation.specs.Turns.{sent, Turn, BackLink, closes, end_of, ends_after, message_to, links_of, IsSent, IsOwnText, Answers, AnswersBy, IsTold, IsLinkTold, HasFailed, HasGivenNone}
+use Rattle.conversation.specs.Steps.{Step, happened, failed, history, failures}
+use Rattle.conversation.specs.Turns.{sent, Turn, BackLink, closes, ends_after, message_to, links_of, IsSent, IsOwnText, Answers, AnswersBy, IsTold, IsLinkTold}
 use Rattle.conversation.specs.Served.{IsAnswered, IsCutBy, IfLast, EndHolds}
 use Rattle.conversation.specs.Holding.{told}
 use Rattle.conversation.proofs.Tellings.{told_elsewhere, history_more, failures_happened, told_failed, told_more, apart_failed, history_failed, failures_failed}
-use Rattle.conversation.proofs.Holdings.{holds_replied, given_more, taken_more, ends_more, ends_end}
+use Rattle.conversation.proofs.Holdings.{holds_replied, given_more, taken_more, ends_end}
 use Rattle.conn_machine.specs.Parts.{Trail, TiedBy, Fits, IsElse, IsExchanging, Passing, end_by, refused_status}
 use Rattle.conn_machine.specs.Relays.{Relays, new_head, IsVersion, IsOutcome, lost_cause, heard_status, heard_cause}
 use Rattle.conn_machine.specs.Reached.{Reached, Opened, PhaseHolds, ending_note, closed_by, trail_of}
@@ -34,11 +34,11 @@ use Rattle.conn_machine.specs.declared.parts.Asked.TheVariants.{Nothing, Request
 use Rattle.conn_machine.specs.declared.parts.Client.{Client}
 use Rattle.conn_machine.specs.declared.parts.Current.{Current}
 use Rattle.conn_machine.specs.declared.parts.Phase.{Phase}
-use Rattle.conn_machine.specs.declared.parts.Phase.TheVariants.{Broken, Over}
+use Rattle.conn_machine.specs.declared.parts.Phase.TheVariants.{Broken}
 use Rattle.conn_machine.specs.declared.parts.Stage.TheVariants.{Exchange, Reply}
 use Rattle.conn_machine.specs.declared.passing.Outcome.TheVariants as out
 use Rattle.conn_machine.specs.declared.conn.Conn.{Conn}
-use Rattle.conn_machine.proofs.Opens.{holds_as, reached_over}
+use Rattle.conn_machine.proofs.Opens.{holds_as}
 use Rattle.conn_machine.proofs.Exchanges.{all_shown}
 use Rattle.conn_machine.proofs.Turnings.{Turning, IsAlike, turning, at_turn, opened_turn, ends_fit, own_text_of}
 use Rattle.conn_machine.proofs.Happenings.{moved, longer, told_link, away, longer_sent, opened_event, passing_on, on_its_way}

@@ -16,7 +16,7 @@ use link_world::{Cause, EndCause};
 use px_base::Memory;
 use std::alloc::{AllocError, Global};
 
-// How far an exchange is.
+/// How far an exchange is.
 #[derive(Clone, Copy, Debug, PartialEq, Eq)]
 pub enum Outcome {
     /// The reply isn't whole.
