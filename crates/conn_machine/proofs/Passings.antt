@@ -131,12 +131,14 @@ pub record Laws : Type 0 where
 more_reply : Laws → (method g piece : List ℕ) (a : HttpReply) (content : List ℕ) → HasReply method g a content → (held : List ℕ) × HasReply method (g ++ piece) a (content ++ held)
 more_reply laws method g piece a content h =
     let d : (held : List ℕ) × (drop h.head (g ++ piece) ≡ drop h.head g ++ held) = drop_more h.head g piece in
-    let f : (held : List ℕ) × (take (content_length a.framing) (drop h.head g ++ d.0) ≡ take (content_length a.framing) (drop h.head g) ++ held) = take_more (content_length a.framing) (drop h.head g) d.0 in
-    (f.0, record {
-      head = h.head;
-      at = laws.stays method g piece a h.head h.at;
-      content_is = ap (λ (l : List ℕ). l ++ f.0) h.content_is ∙ sym (ap (λ (l : List ℕ). take (content_length a.framing) l) d.1 ∙ f.1);
-    })
+    let f : (held : List ℕ) × (take (content_length a.framing) (drop h.head g ++ d.0) ≡ take (content_length a.framing) (drop h.head g) ++ held) = take_more (content_length a.framing) (drop h.head g) d.0 in (
+      f.0,
+      record {
+        head = h.head;
+        at = laws.stays method g piece a h.head h.at;
+        content_is = ap (λ (l : List ℕ). l ++ f.0) h.content_is ∙ sym (ap (λ (l : List ℕ). take (content_length a.framing) l) d.1 ∙ f.1);
+      },
+    )
 
 no_truth : {X : Type 0} → false ≡ true → X
 no_truth e = absurd (let f : ⊥ = cc in f)
@@ -245,7 +247,7 @@ opened_heard {steps} {k} {m} {trail} {input} {pending} {waiting} {over} piece ol
     let used : InUse x.ended x.failed = in_use old.state x.r.method (given x.link.events) x.content x.ended x.failed old open_is before.state in
     let idle : Exchanged (message_to (u.plan.target x.row) x.r) x.r.method (taken x.link.events) (given x.link.events) x.content false false old = subst (λ (f : Bool). Exchanged (message_to (u.plan.target x.row) x.r) x.r.method (taken x.link.events) (given x.link.events) x.content false f old) used.works (subst (λ (e : Bool). Exchanged (message_to (u.plan.target x.row) x.r) x.r.method (taken x.link.events) (given x.link.events) x.content e x.failed old) used.goes_on before) in
     let y : (fresh : List ℕ) × Exchanged (message_to (u.plan.target x.row) x.r) x.r.method (taken x.link.events) (given x.link.events ++ piece) (x.content ++ fresh) false false back
-        × (out' ≡ (out ++ new_head (is_some old.reply) back.reply version close) ++ fresh) = relays (message_to (u.plan.target x.row) x.r) x.r.method (taken x.link.events) (given x.link.events) x.content idle in
+    × (out' ≡ (out ++ new_head (is_some old.reply) back.reply version close) ++ fresh) = relays (message_to (u.plan.target x.row) x.r) x.r.method (taken x.link.events) (given x.link.events) x.content idle in
     let more : List ℕ = new_head (is_some old.reply) back.reply version close ++ y.0 in
     let after : Exchanged (message_to (u.plan.target x.row) x.r) x.r.method (taken (x.link.events ++ gave piece ∷ [])) (given (x.link.events ++ gave piece ∷ [])) (x.content ++ y.0) false false back =
     rw (taken_more x.link.events (gave piece), given_more x.link.events (gave piece), append-nil (taken x.link.events)) y.1 in
@@ -400,9 +402,10 @@ cut_ends {steps} {k} {m} {trail} {input} {pending} {waiting} {over} events faile
     let some : x.back.reply ≢ None = subst (λ (y : BackView). y.reply ≢ None) (sym same) cut.4 in
     let h : StateHolds (state.Broken cut.1) x.r.method (given x.link.events) x.content x.ended x.failed x.back =
     state_at (state.Broken cut.1) x.back x.r.method (given x.link.events) x.content x.ended x.failed (ap (λ (y : BackView). y.state) same ∙ cut.3) x.exchanged.state in
-    let begun : (o.stage.turn.cause ≡ causes.Passed) × (o.stage.turn.whole ≡ false) = cut_begun x.back.reply x.r o.stage.turn x.content pending some x.passing in
-    (subst (IfLast (IsCutBy m.link)) (sym o.stage.last_is) (record { begun = begun.0; unfinished = begun.1; back = x.link; back_is = x.sent.back; number = x.number; why = cut_why cut.1 x.back x.link x.r.method (given x.link.events) x.content x.ended x.failed h some x.ends_is x.fails_is }),
-    last_some o.last o.stage.turn o.stage.last_is)
+    let begun : (o.stage.turn.cause ≡ causes.Passed) × (o.stage.turn.whole ≡ false) = cut_begun x.back.reply x.r o.stage.turn x.content pending some x.passing in (
+      subst (IfLast (IsCutBy m.link)) (sym o.stage.last_is) (record { begun = begun.0; unfinished = begun.1; back = x.link; back_is = x.sent.back; number = x.number; why = cut_why cut.1 x.back x.link x.r.method (given x.link.events) x.content x.ended x.failed h some x.ends_is x.fails_is }),
+      last_some o.last o.stage.turn o.stage.last_is,
+    )
   where
     last_some : (l : Option Turn) (t : Turn) → l ≡ Some t → l ≢ None
     last_some l t is none = cc

@@ -23,12 +23,7 @@ fn give(rt: &impl Abort, alloc: Global, conn: &mut Conn, piece: &[u8]) -> Result
 }
 
 // A configuration with these routers.
-fn pin(
-    rt: &impl Abort,
-    alloc: Global,
-    conn: &mut Conn,
-    routes: List<Route>,
-) -> Result<(), Fail> {
+fn pin(rt: &impl Abort, alloc: Global, conn: &mut Conn, routes: List<Route>) -> Result<(), Fail> {
     let issue = Arc::new(alloc, Generation::new(7, routes))?;
     if conn.want() == Want::Pin && conn.current.number <= 7 {
         conn.pin(alloc, issue)?;
@@ -201,7 +196,8 @@ fn dial(rt: &impl Abort, alloc: Global, conn: &mut Conn) -> Result<(), Fail> {
     } else {
         assert!(rt; false);
     }
-    let text = b"GET / HTTP/1.1\r\nHost: a.test\r\nX-Forwarded-For: 127.0.0.1\r\nX-Forwarded-Host: a.test\r\nX-Forwarded-Port: 80\r\nX-Forwarded-Proto: http\r\nX-Real-Ip: 127.0.0.1\r\nConnection: close\r\n\r\n".as_slice();
+    let text =
+        b"GET / HTTP/1.1\r\nHost: a.test\r\nX-Forwarded-For: 127.0.0.1\r\nX-Forwarded-Host: a.test\r\nX-Forwarded-Port: 80\r\nX-Forwarded-Proto: http\r\nX-Real-Ip: 127.0.0.1\r\nConnection: close\r\n\r\n".as_slice();
     assert_eq!(rt; conn.back_pending(), text);
     let n = conn.back_pending().len();
     if let Want::Exchange { link } = conn.want() {
