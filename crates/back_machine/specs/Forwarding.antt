@@ -1,7 +1,7 @@
 -- What is sent to a server.
 use Rattle.std.specs.Prelude.{ℕ, ◌==◌, Bool, List, ◌++◌, codes, if◌then◌else◌}
 use Rattle.std.specs.Fmt.{decimal}
-use Rattle.back_machine.specs.declared.server.Server.{Server}
+use Rattle.px_base.specs.declared.server.Server.{Server}
 use Rattle.http_wire.specs.declared.message.Request.{Request}
 use Rattle.http_wire.specs.Spelling.{request_text}
 

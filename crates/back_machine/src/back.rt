@@ -6,10 +6,9 @@ ghost use Rattle.back_machine.specs.Exchanges.{IsOpen, broken_by, with_left, Exc
 
 use crate::content::{Content, content_from};
 use crate::reading::{Found, length_of, read_on};
-use crate::server::Server;
 use crate::state::{BackCause, BackState};
 use http_wire::{Reply, Request, spell_request};
-use px_base::{Bytes, Memory, print_decimal};
+use px_base::{Bytes, Memory, Server, print_decimal};
 use std::alloc::Global;
 use std::marker::Model;
 

@@ -6,7 +6,6 @@ mod back;
 mod content;
 mod laws;
 mod reading;
-mod server;
 mod state;
 #[cfg(test)]
 mod tests;
@@ -14,5 +13,4 @@ mod tests;
 pub use back::Back;
 pub use content::Content;
 pub use laws::{cuts_do_not_matter, replies_are_unique};
-pub use server::Server;
 pub use state::{BackCause, BackState};

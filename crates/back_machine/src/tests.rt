@@ -1,8 +1,8 @@
 //! Exchanges: replies in one piece and byte by byte, and what breaks them.
-use crate::{Back, BackCause, BackState, Server};
+use crate::{Back, BackCause, BackState};
 use body_codec::Framing;
 use http_wire::Request;
-use px_base::{Bytes, List};
+use px_base::{Bytes, List, Server};
 use std::alloc::{AllocError, Global};
 use std::process::Abort;
 use std::test::Fail;

@@ -1,10 +1,10 @@
 //! The parts of a connection's machine.
-use back_machine::{Back, Server};
+use back_machine::Back;
 use generation::Generation;
 use http_wire::Request;
 use ip_net::Ip;
 use link_world::{Cause, EndCause};
-use px_base::Bytes;
+use px_base::{Bytes, Server};
 use std::alloc::Global;
 use std::sync::Arc;
 

@@ -10,11 +10,10 @@ ghost use Rattle.conn_machine.specs.Reached.{Reached, IsOpen, IsGoing, Waits};
 use crate::conn::Conn;
 use crate::own::own_text;
 use crate::parts::{Aim, Asked, Current, Phase, Stage};
-use back_machine::Server;
 use generation::{Generation, Target};
 use ip_net::Ip;
 use link_world::{Cause, EndCause, HeadName};
-use px_base::{Bytes, Memory};
+use px_base::{Bytes, Memory, Server};
 use std::alloc::{AllocError, Global};
 use std::sync::Arc;
 

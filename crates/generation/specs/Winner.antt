@@ -3,7 +3,8 @@ use Rattle.std.specs.Prelude.{◌≡◌, ℕ, ◌==◌, ◌&&◌, ◌||◌, Bool
 use Rattle.std.specs.Str.{str_eq_ignore_ascii_case, bytes_eq}
 use Rattle.std.specs.Ordering.{nat_cmp, is_lt}
 use Rattle.std.specs.Cmp.Lexicographic.{slice_cmp, pointwise}
-use Rattle.http_wire.specs.Targets.{host_of_rules, without_dot}
+use Rattle.px_base.specs.Bytes.{without_dot}
+use Rattle.http_wire.specs.Targets.{host_of_rules}
 use Rattle.http_wire.specs.declared.message.Request.{Request}
 use Rattle.rule_lang.specs.declared.leaf.Leaf.{Leaf}
 use Rattle.rule_lang.specs.declared.leaf.Matcher.{Matcher}

@@ -1,10 +1,9 @@
 // The routers of a configuration, and when a rule is true of a request.
 ghost use Rattle.std.specs.Prelude.{◌≡◌, ◌↔◌, IsTrue};
-ghost use Rattle.http_wire.specs.Targets.{without_dot};
 ghost use Rattle.generation.specs.Winner.{takes as takes_request, has_won, truth};
 
 use http_wire::{Request, host_of_rules};
-use px_base::{Bytes, fold_equal};
+use px_base::{Bytes, fold_equal, without_last_dot};
 use rule_lang::{Leaf, Matcher};
 use std::cmp::Ordering;
 
@@ -31,15 +30,6 @@ pub struct Route {
     /// The greater wins.
     pub priority: usize,
     pub target: Target,
-}
-
-fn without_last_dot(text: &[u8]) -> &[u8]
-    ensures { result.now ≡ without_dot text.now }
-{
-    match text {
-        [front @ .., b'.'] => front,
-        _ => text,
-    }
 }
 
 // Whether the rule is true of a request for this host and path.

@@ -1,6 +1,6 @@
 //! The reply head at the front of a buffer (RFC 9112 sections 2 to 5).
-ghost use Rattle.std.specs.Prelude.{◌↔◌, ◌<◌, length};
-ghost use Rattle.httparse.specs.Grammar.{NeverHasResponse, MayBecomeResponse};
+ghost use Rattle.std.specs.Prelude.{◌↔◌, ◌<◌, List, ℕ, length};
+ghost use Rattle.httparse.specs.Grammar.{NeverHasResponse, MayBecomeResponse, ResponseHead, ReadsResponse};
 ghost use Rattle.head_view.specs.Lines.{line_feeds};
 ghost use Rattle.head_view.specs.Replies.{IfWhole, IsWhole, OnPart, OnBad, OnTooMany, IsHeadWithin, AreHeadSpans, HasHead, FindsHead};
 
@@ -46,6 +46,7 @@ pub fn scan_reply(buf: &[u8], room: &mut [HeaderSpan]) -> ReplyScan
     ensures too_many { OnTooMany result
         ((¬ (HasHead (length room.old) buf.now)) × (length room.old < line_feeds buf.now)) }
     ensures part { OnPart result (MayBecomeResponse buf.now) }
+    ensures none_whole { OnPart result ((h : ResponseHead) (rest : List ℕ) → ¬ (ReadsResponse buf.now h rest)) }
 {
     match parse_response(buf, room) {
         Ok(Status::Complete(spans)) => ReplyScan::Whole(ReplySpans {

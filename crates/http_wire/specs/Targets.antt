@@ -3,6 +3,7 @@ use Rattle.std.specs.Prelude.{◌≡◌, ℕ, ◌+◌, ◌-◌, ◌==◌, Bool, 
 use Rattle.std.specs.List.{list_all, position, suffix_len}
 use Rattle.std.specs.Char.{is_ascii_digit}
 use Rattle.std.specs.Str.{str_eq_ignore_ascii_case}
+use Rattle.px_base.specs.Bytes.{without_dot}
 use Rattle.http_wire.specs.Fields.{is_same}
 
 -- the target begins with a slash
@@ -97,10 +98,6 @@ has_colon host =
 -- what stands before that colon and those digits
 abbrev pub without_port : List ℕ → List ℕ
 without_port host = if has_colon host then take (length host - last_digits host - 1) host else host
-
--- the text without one dot at its end
-abbrev pub without_dot : List ℕ → List ℕ
-without_dot text = if slice_index text (length text - 1) == 46 then take (length text - 1) text else text
 
 -- the host that rules see, of a host text
 abbrev pub host_of_rules : List ℕ → List ℕ

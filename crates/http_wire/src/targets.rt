@@ -3,9 +3,9 @@ ghost use Rattle.std.specs.Prelude.{◌≡◌, ℕ, List, ◌≤◌, ◌<◌, �
 ghost use Rattle.std.specs.List.{list_all, position};
 ghost use Rattle.std.specs.Option.{option_map};
 ghost use Rattle.path_norm.specs.Normal.{IsRooted};
-ghost use Rattle.http_wire.specs.Targets.{is_origin, is_absolute, ends_authority, behind_scheme, before_place, from_place, behind_place, authority_of, path_and_query, is_question, or_slash, path_of, query_of, host_text_of, is_target_byte, is_bad_target, last_digits, has_port, port_of, has_colon, without_port as text_without_port, without_dot, host_of_rules as rule_host};
+ghost use Rattle.http_wire.specs.Targets.{is_origin, is_absolute, ends_authority, behind_scheme, before_place, from_place, behind_place, authority_of, path_and_query, is_question, or_slash, path_of, query_of, host_text_of, is_target_byte, is_bad_target, last_digits, has_port, port_of, has_colon, without_port as text_without_port, host_of_rules as rule_host};
 
-use px_base::fold_equal;
+use px_base::{fold_equal, without_last_dot};
 
 /// Whether the target begins with `http://`, without case.
 fn has_scheme(target: &[u8]) -> bool
@@ -159,14 +159,5 @@ fn without_port(host: &[u8]) -> &[u8]
         &host[..host.len() - digits - 1]
     } else {
         host
-    }
-}
-
-fn without_last_dot(text: &[u8]) -> &[u8]
-    ensures { result.now ≡ without_dot text.now }
-{
-    match text {
-        [front @ .., b'.'] => front,
-        _ => text,
     }
 }

@@ -4,13 +4,10 @@ use Rattle.std.specs.Str.{str_to_ascii_lowercase}
 use Rattle.std.specs.Ordering.{nat_cmp}
 use Rattle.std.specs.Cmp.Lexicographic.{slice_cmp}
 use Rattle.std.specs.declared.cmp.Ordering.TheVariants.{Less}
+use Rattle.px_base.specs.Bytes.{without_dot}
 use Rattle.rule_lang.specs.declared.leaf.Matcher.{Matcher}
 use Rattle.rule_lang.specs.declared.leaf.Matcher.TheVariants.{Host, Path, PathPrefix}
 use Rattle.proxy_cmd.specs.Form.{RouterDef}
-
--- the text without one dot at its end
-abbrev pub without_dot : List ℕ → List ℕ
-without_dot text = if slice_index text (length text - 1) == 46 then take (length text - 1) text else text
 
 -- the matcher with this value is true of a request for this host and path: the host is the value
 -- without case, a last dot of the value dropped; the path is the value; the path begins with it

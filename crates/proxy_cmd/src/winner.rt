@@ -2,21 +2,12 @@
 ghost use Rattle.std.specs.Prelude.{◌≡◌, ◌↔◌, ◌++◌, ◌∷◌, [], List, IsTrue, Option, map, option_map};
 ghost use Rattle.proxy_cmd.specs.Form.{RouterDef};
 ghost use Rattle.proxy_cmd.specs.Seen.{router_def};
-ghost use Rattle.proxy_cmd.specs.Winner.{without_dot, Takes, Beats, IsBest};
+ghost use Rattle.proxy_cmd.specs.Winner.{Takes, Beats, IsBest};
 
 use crate::config::Router;
-use px_base::fold_equal;
+use px_base::{fold_equal, without_last_dot};
 use rule_lang::Matcher;
 use std::cmp::Ordering;
-
-fn without_last_dot(text: &[u8]) -> &[u8]
-    ensures { result.now ≡ without_dot text.now }
-{
-    match text {
-        [front @ .., b'.'] => front,
-        _ => text,
-    }
-}
 
 // Whether the router's rule is true of a request for this host and path.
 fn takes(router: &Router, host: &[u8], path: &[u8]) -> bool

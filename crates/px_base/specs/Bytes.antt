@@ -1,5 +1,5 @@
 -- What one read and one write do to the bytes that are left and held, and when they may fail.
-use Rattle.std.specs.Prelude.{ℕ, ◌+◌, ◌-◌, ◌^◌, ◌<◌, ◌≤◌, min, Bool, true, false, List, length, take, Option}
+use Rattle.std.specs.Prelude.{ℕ, ◌+◌, ◌-◌, ◌^◌, ◌<◌, ◌≤◌, ◌==◌, min, Bool, true, false, if◌then◌else◌, List, length, take, slice_index, Option}
 use Rattle.std.specs.Io.KnownBytes.{Consumes, Keeps, Appends, IsAtEnd}
 use Rattle.px_base.specs.declared.step.ReadStep.{ReadStep}
 use Rattle.px_base.specs.declared.step.ReadStep.TheVariants as read
@@ -56,3 +56,7 @@ is_failed_write write.Failed = true
 -- what is held grew by a part of the text that is not all of it
 abbrev pub AppendsLess : Option (List ℕ) → Option (List ℕ) → List ℕ → Type 0
 AppendsLess old new text = (n : ℕ) × (n < length text) × Appends old new (take n text)
+
+-- the text without one dot at its end
+abbrev pub without_dot : List ℕ → List ℕ
+without_dot text = if slice_index text (length text - 1) == 46 then take (length text - 1) text else text

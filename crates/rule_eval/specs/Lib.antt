@@ -1,6 +1,5 @@
 pub mod Patterns
 pub mod Views
-pub mod Lists
 pub mod Pairs
 pub mod Calls
 pub mod Truth

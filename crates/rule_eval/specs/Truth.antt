@@ -11,7 +11,7 @@ use Rattle.head_view.specs.Lines.{Line, values_of}
 use Rattle.head_view.specs.Views.{view_lines}
 use Rattle.head_view.specs.declared.views.RequestView.{RequestView}
 use Rattle.rule_eval.specs.Patterns.{finds}
-use Rattle.rule_eval.specs.Lists.{without_dot}
+use Rattle.px_base.specs.Bytes.{without_dot}
 use Rattle.rule_eval.specs.Pairs.{Pair, query_pairs}
 
 -- what a rule is asked of, beside the peer: the method, the host for rules, the path, the query's

@@ -6,7 +6,7 @@ ghost use Rattle.head_view.specs.Lines.{values_of};
 ghost use Rattle.head_view.specs.Views.{view_lines};
 ghost use Rattle.rule_eval.specs.Calls.{is_plain};
 ghost use Rattle.rule_eval.specs.Checks.{probe_call};
-ghost use Rattle.rule_eval.specs.Lists.{without_dot};
+ghost use Rattle.px_base.specs.Bytes.{without_dot};
 ghost use Rattle.rule_eval.specs.Patterns.{finds as is_found_in_bytes};
 ghost use Rattle.rule_eval.specs.Truth.{Truth, IsPeerIn, asked_of};
 ghost use Rattle.rule_eval.specs.Views.{pattern_text};
@@ -18,7 +18,7 @@ use crate::pattern::Pattern;
 use crate::probe::Probe;
 use head_view::RequestView;
 use ip_net::{Ip, contains};
-use px_base::{Memory, fold_equal};
+use px_base::{Memory, fold_equal, without_last_dot};
 use std::alloc::Global;
 
 // Whether a call is true. A plain one takes no memory.
@@ -119,15 +119,6 @@ fn is_host(host: &[u8], wanted: &[u8]) -> bool
         ↔ (str_to_ascii_lowercase host.now ≡ str_to_ascii_lowercase (without_dot wanted.now)) }
 {
     fold_equal(host, without_last_dot(wanted))
-}
-
-fn without_last_dot(text: &[u8]) -> &[u8]
-    ensures { result.now ≡ without_dot text.now }
-{
-    match text {
-        [front @ .., b'.'] => front,
-        _ => text,
-    }
 }
 
 // Whether the pattern is found in the lower-cased host.

@@ -1,5 +1,5 @@
 //! A server that requests are sent to.
-use px_base::Bytes;
+use crate::Bytes;
 
 /// A server: where its links are dialled to, and its weight among the servers of its balancer.
 #[derive(Debug, Drop)]
