@@ -5,7 +5,8 @@ ghost use Rattle.std.specs.Arc.{arc_value};
 ghost use Rattle.conversation.specs.Steps.{Step, pinned};
 ghost use Rattle.generation.specs.Meaning.{plan_of, aim_of};
 ghost use Rattle.conn_machine.specs.Parts.{end_by, refused_status, IsRoute, IsAim, issue_plan};
-ghost use Rattle.conn_machine.specs.Reached.{Reached, IsOpen, IsGoing, Waits};
+ghost use Rattle.conn_machine.specs.Prompt.{IsPrompt};
+ghost use Rattle.conn_machine.specs.Reached.{Reached, IsOpen, IsGoing, Waits, KeepsServer};
 
 use crate::conn::Conn;
 use crate::own::own_text;
@@ -36,7 +37,9 @@ impl Conn {
         requires rises { self.old.current.number ≤ (plan_of (arc_value issue)).number }
         ensures client { self.new.client ≡ self.old.client }
         ensures going { OnOk result (IsGoing self.new.phase) }
+        ensures prompt { OnOk result (IsPrompt self.new) }
         ensures number { self.new.current.number ≡ (plan_of (arc_value issue)).number }
+        ensures server { KeepsServer self.old self.new }
         ensures reached { (steps : List Step) → Reached steps self.old
             → Reached (steps ++ pinned (plan_of (arc_value issue)) ∷ []) self.new }
     {
@@ -70,7 +73,9 @@ impl Conn {
         requires { Waits Stage.Route self.old }
         ensures client { self.new.client ≡ self.old.client }
         ensures going { OnOk result (IsGoing self.new.phase) }
+        ensures prompt { OnOk result (IsPrompt self.new) }
         ensures number { self.new.current.number ≡ self.old.current.number }
+        ensures server { ¬ (Waits Stage.Exchange self.new) }
         ensures reached { (steps : List Step) → Reached steps self.old → Reached steps self.new }
     {
         self.phase = Phase::Broken;
