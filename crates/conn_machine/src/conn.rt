@@ -2,6 +2,8 @@
 ghost use Rattle.std.specs.Prelude.{◌≡◌, ◌≤◌, ◌<◌, ◌+◌, ◌++◌, ◌∷◌, [], List, ℕ, length, take, false, IfOk, OnOk, OnErr, IsTrue, ◌↔◌, vec_len, vec_capacity};
 ghost use Rattle.link_world.specs.Log.{came, gave, gave_end};
 ghost use Rattle.conversation.specs.Steps.{Step, happened, failed, stopped};
+ghost use Rattle.conn_machine.specs.Events.{IsEnabled};
+ghost use Rattle.conn_machine.specs.declared.event.EventShape.{EventShape};
 ghost use Rattle.conn_machine.specs.Prompt.{IsPrompt};
 ghost use Rattle.conn_machine.specs.Reached.{Reached, IsOpen, Waits, KeepsServer, HasRoom, IsEnding, IsGoing, trail_of, pending_of};
 
@@ -75,6 +77,9 @@ impl Conn {
         ensures phase { self.new.phase ≡ self.old.phase }
         ensures stage { self.new.stage ≡ self.old.stage }
         ensures input { self.new.input.items ≡ self.old.input.items }
+        ensures rest { self.new ≡ record self.old { notes = self.new.notes; looks = self.new.looks; picks = self.new.picks; backs = self.new.backs; input = self.new.input } }
+        ensures notes { self.new.notes.items ≡ self.old.notes.items }
+        ensures enabled { (shape : EventShape) → IsEnabled shape self.old → IsEnabled shape self.new }
         ensures room { OnOk result (HasRoom n self.new) }
         ensures prompt { IsPrompt self.old → IsPrompt self.new }
         ensures over { self.new.over ≡ self.old.over }
