@@ -4,10 +4,12 @@ use Rattle.link_world.specs.Seen.{Seen}
 use Rattle.link_world.specs.Lately.{Lately}
 use Rattle.desk.specs.Desks.{Desk}
 use Rattle.conversation.specs.Steps.{Step, IsNew}
+use Rattle.conversation.specs.Plans.{Plan}
 use Rattle.conn_machine.specs.Reached.{Reached, Waits}
 use Rattle.conn_machine.specs.declared.parts.Phase.TheVariants.{Open}
 use Rattle.conn_machine.specs.declared.parts.Stage.TheVariants as stage
 use Rattle.conn_machine.specs.declared.conn.Conn.{Conn}
+use Rattle.conn_service.specs.Pins.{IsBelow}
 
 pub record Moment : Type 0 where
   pub seen : Seen
@@ -44,8 +46,21 @@ pub record Given (old new : Seen) (link : ℕ) : Type 0 where
 abbrev pub Owns : Seen → Seen → Conn → ℕ → Type 0
 Owns old new c link = (link ≡ c.client.link) ⊎ (IsExchanging c × (link ≡ c.current.link)) ⊎ Given old new link
 
--- it was told these steps, and nothing of a link that the world hasn't given
-pub record Tracked (s : Seen) (c : Conn) : Type 0 where
-  pub steps : List Step
+-- the connection was told these steps, and nothing of a link that the world hasn't given
+pub record Stands (s : Seen) (steps : List Step) (c : Conn) : Type 0 where
   pub reached : Reached steps c
   pub fresh : (link : ℕ) → s.come link ≡ false → IsNew link steps
+
+abbrev pub IsTracked : Seen → Conn → Type 0
+IsTracked s c = (steps : List Step) × Stands s steps c
+
+-- the world gave the link, and these steps tell nothing of it
+pub record IsElse (s : Seen) (steps : List Step) (link : ℕ) : Type 0 where
+  pub come : s.come link ≡ true
+  pub quiet : IsNew link steps
+
+-- it is open, its links are in order, and the number of its last pin is at most that of the last generation seen
+pub record IsReady (s : Seen) (generations : List Plan) (c : Conn) : Type 0 where
+  pub is_open : c.phase ≡ Open
+  pub linked : Linked s c
+  pub below : IsBelow generations c.current.number

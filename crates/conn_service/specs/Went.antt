@@ -1,14 +1,14 @@
 -- What serving one connection does to it, to the world and to a shared desk.
-use Rattle.std.specs.Prelude.{◌≡◌, ◌≢◌, ◌⊎◌, ℕ, ◌≤◌, List, [], ◌∷◌, ◌++◌, Option, true, false}
+use Rattle.std.specs.Prelude.{◌≡◌, ◌≢◌, ◌⊎◌, ℕ, ◌≤◌, List, [], ◌∷◌, ◌++◌, Option, IfSome, true, false}
 use Rattle.std.specs.Option.{option_map}
-use Rattle.link_world.specs.Log.{Event, IsFresh, history_of}
+use Rattle.link_world.specs.Log.{Event, IsFresh, history_of, notes}
 use Rattle.link_world.specs.Seen.{Seen, Rose}
 use Rattle.link_world.specs.Lately.{Lately, SameAt}
 use Rattle.desk.specs.Desks.{Desk}
 use Rattle.conversation.specs.Steps.{Step, history, failures, stops, IsNew}
 use Rattle.conn_machine.specs.Reached.{Reached, IsUnended}
 use Rattle.conn_machine.specs.declared.conn.Conn.{Conn}
-use Rattle.conn_service.specs.Moments.{Moment, moment, IsExchanging, Linked, Given, Owns}
+use Rattle.conn_service.specs.Moments.{Moment, moment, IsExchanging, Linked, Given, Owns, Stands}
 use Rattle.conn_service.specs.Pins.{DeskWent}
 
 -- the log, where it is told, with these events after it
@@ -25,13 +25,16 @@ pub record Still (x y : Moment) (ran : List Event) (did : List Step) (link : ℕ
   pub lately : SameAt link x.lately y.lately
 
 -- The world did these events and no others. What happened on a link is what the connection was told of it, and
--- happened only on links of the connection. A link whose failure it was told of has failed.
+-- happened only on links of the connection, of which the log told nothing where it was given since. Notes are told on
+-- the client's link alone. A link whose failure it was told of has failed.
 pub record WorldWent (x y : Moment) (ran : List Event) (did : List Step) : Type 0 where
   pub log : y.seen.log ≡ extended x.seen.log ran
   pub shows : (link : ℕ) → history link did ≡ history_of link ran
+  pub noted : (link : ℕ) → link ≢ x.conn.client.link → notes (history link did) ≡ []
   pub others : (link : ℕ) → (Owns x.seen y.seen x.conn link → ⊥) → Still x y ran did link
   pub come : (link : ℕ) → x.seen.come link ≡ true → y.seen.come link ≡ true
   pub fresh : (link : ℕ) → y.seen.come link ≡ false → IsNew link did
+  pub unlogged : (link : ℕ) → Given x.seen y.seen link → IfSome x.seen.log (IsFresh link)
   pub failed : (link : ℕ) → failures link did ≢ [] → Rose (x.seen.faults link) (y.seen.faults link)
   pub faults : (link : ℕ) → x.seen.faults link ≤ y.seen.faults link
   pub stops : y.seen.stops ≡ x.seen.stops
@@ -41,8 +44,7 @@ pub record WorldWent (x y : Moment) (ran : List Event) (did : List Step) : Type 
 
 -- The connection was told these steps: of a stop only where there is a reason for one. Its links are in order.
 pub record ConnWent (stopping : Type 0) (x y : Moment) (did : List Step) : Type 0 where
-  pub reached : (steps : List Step) → ((link : ℕ) → x.seen.come link ≡ false → IsNew link steps)
-      → Reached steps x.conn → Reached (steps ++ did) y.conn
+  pub reached : (steps : List Step) → Stands x.seen steps x.conn → Reached (steps ++ did) y.conn
   pub client : y.conn.client ≡ x.conn.client
   pub server : IsExchanging y.conn
       → (IsExchanging x.conn × (y.conn.current.link ≡ x.conn.current.link)) ⊎ Given x.seen y.seen y.conn.current.link

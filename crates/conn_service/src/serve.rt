@@ -1,8 +1,8 @@
 //! What a worker does with one connection in a turn, where it stops and where it finds no memory.
-ghost use Rattle.std.specs.Prelude.{◌≡◌, ◌⊎◌, OnOk, OnErr};
+ghost use Rattle.std.specs.Prelude.{◌≡◌, ◌⊎◌, [], OnOk, OnErr};
 ghost use Rattle.desk.specs.Desks.{Desk};
 ghost use Rattle.conn_machine.specs.Reached.{IsOpen, IsFinished, IsEnding, notes_left};
-ghost use Rattle.conn_service.specs.Moments.{moment, Linked, Tracked};
+ghost use Rattle.conn_service.specs.Moments.{moment, Linked, IsTracked, IsReady};
 ghost use Rattle.conn_service.specs.Pins.{IsBelow};
 ghost use Rattle.conn_service.specs.Went.{Went, Lost};
 ghost use Rattle.conn_service.specs.Calm.{Calm};
@@ -25,14 +25,14 @@ pub fn serve<R: Wait, W: World, S: Shared>(
     world: &mut W,
     shared: &mut S,
 ) -> Result<(), Memory>
-    requires linked { Linked (W.seen world.old) conn.old }
-    requires tracked { Tracked (W.seen world.old) conn.old }
-    requires below { IsBelow (S.desk shared.old).generations conn.old.current.number }
+    requires ready { IsReady (W.seen world.old) (S.desk shared.old).generations conn.old }
+    requires tracked { IsTracked (W.seen world.old) conn.old }
     ensures went { OnOk result (Went ⊥ (moment (W.seen world.old) (W.lately world.old) (S.desk shared.old) conn.old)
         (moment (W.seen world.new) (W.lately world.new) (S.desk shared.new) conn.new)) }
     ensures lost { OnErr result (Lost ⊥ (moment (W.seen world.old) (W.lately world.old) (S.desk shared.old) conn.old)
         (W.seen world.new) (W.lately world.new) (S.desk shared.new)) }
-    ensures kept { OnOk result (IsOpen conn.new ⊎ IsFinished conn.new) }
+    ensures ready { OnOk result (IsFinished conn.new ⊎ IsReady (W.seen world.new) (S.desk shared.new).generations conn.new) }
+    ensures told { OnOk result (conn.new.notes.items ≡ []) }
     ensures calm { OnOk result (Calm (W.lately world.new) conn.new) }
 {
     attempt(conn, rt, alloc, world, shared);
@@ -43,7 +43,7 @@ pub fn serve<R: Wait, W: World, S: Shared>(
 /// Ends a connection where the worker stops, closes its links and tells its notes.
 pub fn stop<W: World>(conn: &mut Conn, alloc: Global, world: &mut W) -> Result<(), Memory>
     requires linked { Linked (W.seen world.old) conn.old }
-    requires tracked { Tracked (W.seen world.old) conn.old }
+    requires tracked { IsTracked (W.seen world.old) conn.old }
     ensures went { (g : Desk) → OnOk result (Went (Unit {0}) (moment (W.seen world.old) (W.lately world.old) g conn.old)
         (moment (W.seen world.new) (W.lately world.new) g conn.new)) }
     ensures lost { (g : Desk) → OnErr result (Lost (Unit {0}) (moment (W.seen world.old) (W.lately world.old) g conn.old)
@@ -58,7 +58,7 @@ pub fn stop<W: World>(conn: &mut Conn, alloc: Global, world: &mut W) -> Result<(
 /// Ends a connection where the worker found no memory, closes its links and tells its notes.
 pub fn quit<W: World>(conn: &mut Conn, alloc: Global, world: &mut W) -> Result<(), Memory>
     requires linked { Linked (W.seen world.old) conn.old }
-    requires tracked { Tracked (W.seen world.old) conn.old }
+    requires tracked { IsTracked (W.seen world.old) conn.old }
     ensures went { (g : Desk) → OnOk result (Went ⊥ (moment (W.seen world.old) (W.lately world.old) g conn.old)
         (moment (W.seen world.new) (W.lately world.new) g conn.new)) }
     ensures lost { (g : Desk) → OnErr result (Lost ⊥ (moment (W.seen world.old) (W.lately world.old) g conn.old)
@@ -129,13 +129,14 @@ fn halt<W: World>(conn: &mut Conn, world: &mut W)
 // Tells the notes that wait.
 fn tell<W: World>(conn: &mut Conn, alloc: Global, world: &mut W) -> Result<(), Memory>
     requires linked { Linked (W.seen world.old) conn.old }
-    requires tracked { Tracked (W.seen world.old) conn.old }
+    requires tracked { IsTracked (W.seen world.old) conn.old }
     requires kept { IsOpen conn.old ⊎ IsEnding conn.old.phase }
     ensures went { (g : Desk) → OnOk result (Went ⊥ (moment (W.seen world.old) (W.lately world.old) g conn.old)
         (moment (W.seen world.new) (W.lately world.new) g conn.new)) }
     ensures lost { (g : Desk) → OnErr result (Lost ⊥ (moment (W.seen world.old) (W.lately world.old) g conn.old)
         (W.seen world.new) (W.lately world.new) g) }
     ensures lately { W.lately world.new ≡ W.lately world.old }
+    ensures told { OnOk result (conn.new.notes.items ≡ []) }
     ensures open { OnOk result (IsOpen conn.old → conn.new ≡ record conn.old { notes = conn.new.notes }) }
     ensures finished { OnOk result (IsEnding conn.old.phase → IsFinished conn.new) }
 {
