@@ -1,1 +1,5 @@
-
+pub mod Lists
+pub mod Worlds
+pub mod Desks
+pub mod Wents
+pub mod Counts

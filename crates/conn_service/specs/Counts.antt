@@ -13,8 +13,8 @@ pub record Counted (r : Reads) (l : Lately) (c : Conn) : Type 0 where
   pub server : IsExchanging c → r.server ≤ l.reads c.current.link
   pub server_most : r.server ≤ 64
 
--- the connection has the same work, and no link that was quiet has moved
-pub record Stays (old new : Lately) (c d : Conn) : Type 0 where
+-- the connection has the same work
+pub record SameWork (c d : Conn) : Type 0 where
   pub client : d.client ≡ c.client
   pub current : d.current ≡ c.current
   pub phase : d.phase ≡ c.phase
@@ -22,6 +22,10 @@ pub record Stays (old new : Lately) (c d : Conn) : Type 0 where
   pub over : d.over ≡ c.over
   pub input : d.input.items ≡ c.input.items
   pub pending : pending_of d ≡ pending_of c
+
+-- the connection has the same work, and no link that was quiet has moved
+pub record Stays (old new : Lately) (c d : Conn) : Type 0 where
+  pub same : SameWork c d
   pub read_quiet : (link : ℕ) → old.read_quiet link ≡ true → new.read_quiet link ≡ true
   pub write_quiet : (link : ℕ) → old.write_quiet link ≡ true → new.write_quiet link ≡ true
   pub reads : (link k : ℕ) → k ≤ 64 → k ≤ old.reads link → k ≤ new.reads link

@@ -25,13 +25,13 @@ pub record Still (x y : Moment) (ran : List Event) (did : List Step) (link : ℕ
   pub lately : SameAt link x.lately y.lately
 
 -- The world did these events and no others. What happened on a link is what the connection was told of it, and
--- happened only on links of the connection, of which the log told nothing where it was given since. Notes are told on
+-- happened only on links that it owns, of which the log told nothing where it was given since. Notes are told on
 -- the client's link alone. A link whose failure it was told of has failed.
-pub record WorldWent (x y : Moment) (ran : List Event) (did : List Step) : Type 0 where
+pub record WorldWent (owns : ℕ → Type 0) (x y : Moment) (ran : List Event) (did : List Step) : Type 0 where
   pub log : y.seen.log ≡ extended x.seen.log ran
   pub shows : (link : ℕ) → history link did ≡ history_of link ran
   pub noted : (link : ℕ) → link ≢ x.conn.client.link → notes (history link did) ≡ []
-  pub others : (link : ℕ) → (Owns x.seen y.seen x.conn link → ⊥) → Still x y ran did link
+  pub others : (link : ℕ) → (owns link → ⊥) → Still x y ran did link
   pub come : (link : ℕ) → x.seen.come link ≡ true → y.seen.come link ≡ true
   pub fresh : (link : ℕ) → y.seen.come link ≡ false → IsNew link did
   pub unlogged : (link : ℕ) → Given x.seen y.seen link → IfSome x.seen.log (IsFresh link)
@@ -55,7 +55,7 @@ pub record ConnWent (stopping : Type 0) (x y : Moment) (did : List Step) : Type 
 pub record Went (stopping : Type 0) (x y : Moment) : Type 0 where
   pub ran : List Event
   pub did : List Step
-  pub world : WorldWent x y ran did
+  pub world : WorldWent (Owns x.seen y.seen x.conn) x y ran did
   pub conn : ConnWent stopping x y did
   pub desk : DeskWent x.desk y.desk x.conn.current.number y.conn.current.number did
 

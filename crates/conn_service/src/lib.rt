@@ -4,11 +4,11 @@
 
 mod choose;
 mod client;
-mod release;
-mod serve;
+mod links;
+mod service;
 mod server;
 #[cfg(test)]
 mod tests;
 mod turn;
 
-pub use serve::{quit, serve, stop};
+pub use service::{quit, serve, stop};

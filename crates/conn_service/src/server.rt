@@ -9,7 +9,7 @@ ghost use Rattle.conn_service.specs.Calm.{IsRead};
 ghost use Rattle.conn_service.specs.Counts.{Counted, Stays};
 ghost use Rattle.conn_service.specs.declared.turn.Reads.{Reads as ReadsOf};
 
-use crate::release::{release, server_of};
+use crate::links::{release, server_of};
 use crate::turn::Reads;
 use conn_machine::{Conn, Want};
 use link_world::{LinkRead, LinkWrite, World};

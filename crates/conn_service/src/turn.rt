@@ -10,7 +10,7 @@ ghost use Rattle.conn_service.specs.Counts.{Counted, Stays};
 
 use crate::choose::choose;
 use crate::client::{answer, receive};
-use crate::release::{release, server_of};
+use crate::links::{release, server_of};
 use crate::server::{ask, dial, hear};
 use conn_machine::{Conn, Stage};
 use desk::Shared;

@@ -7,7 +7,7 @@ ghost use Rattle.conn_service.specs.Pins.{IsBelow};
 ghost use Rattle.conn_service.specs.Went.{Went, Lost};
 ghost use Rattle.conn_service.specs.Calm.{Calm};
 
-use crate::release::{hang_up, release, server_of};
+use crate::links::{hang_up, release, server_of};
 use crate::turn::work;
 use conn_machine::Conn;
 use desk::Shared;

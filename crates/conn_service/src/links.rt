@@ -41,7 +41,8 @@ pub(crate) fn hang_up<W: World>(conn: &Conn, world: &mut W)
         (moment (W.seen world.new) (W.lately world.new) g conn.now) }
     ensures open { IsOpen conn.now → W.lately world.new ≡ W.lately world.old }
 {
-    if !conn.is_open() {
-        world.close(conn.client.link);
+    if conn.is_open() {
+        return;
     }
+    world.close(conn.client.link);
 }
