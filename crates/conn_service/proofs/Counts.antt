@@ -1,6 +1,9 @@
 -- How often links were read, and what stays where nothing moved.
-use Rattle.std.proofs.Common.{◌≡◌, ◌≢◌, ◌⊎◌, ℕ, ◌+◌, ◌<◌, ◌≤◌, min, List, [], refl, sym, ◌∙◌, ap, subst, inl, inr, arith, true, false, Bool}
+use Rattle.std.proofs.Common.{◌≡◌, ◌≢◌, ◌⊎◌, ℕ, ◌+◌, ◌<◌, ◌≤◌, min, nat_eq, length, List, [], ◌∷◌, refl, sym, ◌∙◌, ap, subst, inl, inr, arith, true, false, Bool}
+use Rattle.std.specs.Prelude.{Result, Ok, Err, IfOk}
+use Rattle.std.proofs.lemmas.List.{nil_from_length}
 use Rattle.std.proofs.lemmas.Bool.{cases_eq}
+use Rattle.std.proofs.lemmas.Bool.Decides.{nat_tests}
 use Rattle.link_world.specs.Seen.{Seen}
 use Rattle.link_world.specs.Lately.{Lately, OnlyAt, SameAt, ReadLately, WriteLately}
 use Rattle.link_world.specs.declared.world.LinkRead.{LinkRead}
@@ -124,3 +127,21 @@ stays_write {l} {m} {c} {d} {link} did same = record {
     unread : (k : ℕ) → (k ≡ link) ⊎ (k ≢ link) → m.read_quiet k ≡ l.read_quiet k
     unread k (inl at) = subst (λ (n : ℕ). m.read_quiet n ≡ l.read_quiet n) (sym at) did.read_quiet
     unread k (inr ne) = (did.only.others k ne).read_quiet
+
+pub empty_of : {X : Type 0} (b : Bool) (xs : List X) → b ≡ nat_eq (length xs) 0 → b ≡ true → xs ≡ []
+empty_of b xs is yes_ = nil_from_length xs (zero_of (length xs) (sym is ∙ yes_))
+  where
+    zero_of : (n : ℕ) → nat_eq n 0 ≡ true → n ≡ 0
+    zero_of n e = grind (arith, nat_tests)
+
+pub some_of : {X : Type 0} (b : Bool) (xs : List X) → b ≡ nat_eq (length xs) 0 → b ≡ false → 0 < length xs
+some_of b [] is no_ = absurd (let f : ⊥ = cc in f)
+some_of b (x ∷ xs) is no_ = omega arith
+
+pub if_ok : {T E : Type 0} {P Q : T → Type 0} (r : Result T E) → ((x : T) → P x → Q x) → IfOk r P → IfOk r Q
+if_ok (Ok x) f h = f x h
+if_ok (Err e) f h = tt
+
+-- the server's link is another than the client's
+pub server_other : {s : Seen} {c : Conn} {link : ℕ} → Linked s c → IsExchanging c → link ≡ c.current.link → link ≢ c.client.link
+server_other linked ex at same = linked.apart ex (sym at ∙ same)

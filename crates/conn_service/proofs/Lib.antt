@@ -3,3 +3,4 @@ pub mod Worlds
 pub mod Desks
 pub mod Wents
 pub mod Counts
+pub mod Calms

@@ -16,6 +16,7 @@ use Rattle.conversation.specs.Turns.{Turn, BackLink, IsTold, IsLinkTold, IsShown
 use Rattle.conversation.specs.Served.{IfLast, IsAnswered}
 use Rattle.conn_machine.specs.Reached.{Reached, KeepsServer, IsEnding, Waits, WantsNode, IsUnended, PhaseHolds, pending_of}
 use Rattle.conn_machine.specs.Parts.{AtStage}
+use Rattle.conn_machine.specs.Prompt.{IsPrompt}
 use Rattle.conn_machine.specs.declared.parts.Client.{Client}
 use Rattle.conn_machine.specs.declared.parts.Current.{Current}
 use Rattle.conn_machine.specs.declared.parts.Phase.{Phase}
@@ -432,6 +433,7 @@ pub ready_kept : {s t : Seen} {f g : List Plan} {c : Conn} → IsReady s f c →
     → t.is_open c.client.link ≡ true → (IsExchanging c → t.is_open c.current.link ≡ true) → IsReady t g c
 ready_kept {s} {t} {f} {g} {c} h grew come client server = record {
   is_open = h.is_open;
+  prompt = h.prompt;
   linked = record {
     come = come c.client.link h.linked.come;
     client = λ is. client;
@@ -454,3 +456,58 @@ wants_still c d current wants = λ a is. wants a (ap (λ (m : Current). m.aim) (
 -- no more steps were told
 pub reached_still : {c d : Conn} → ((steps : List Step) → Reached steps c → Reached steps d) → (steps : List Step) → Reached steps c → Reached (steps ++ []) d
 reached_still {c} {d} f steps r = subst (λ (l : List Step). Reached l d) (sym (append-nil steps)) (f steps r)
+
+pub ending_from : {p q : Phase} → p ≡ q → IsEnding q → IsEnding p
+ending_from is end = subst IsEnding (sym is) end
+
+-- one that ends is in no exchange, and waits for nothing
+pub server_from : {c d : Conn} → IsEnding d.phase → KeepsServer c d
+server_from {c} {d} end = λ ex. absurd (not_open d.phase end ex.phase)
+
+pub prompt_ending : {c : Conn} → IsEnding c.phase → IsPrompt c
+prompt_ending {c} end = record {
+  goes_on = λ w. absurd (not_open c.phase end w.phase);
+  part = λ w. absurd (not_open c.phase end w.phase);
+  exchange = λ w. absurd (not_open c.phase end w.phase);
+  reply = λ w. absurd (not_open c.phase end w.phase);
+}
+
+pub prompt_dial : {c : Conn} → Waits stage.Dial c → IsPrompt c
+prompt_dial {c} waits = record {
+  goes_on = λ w. absurd (other stage.Head w (λ e. cc));
+  part = λ w. absurd (other stage.Head w (λ e. cc));
+  exchange = λ w. absurd (other stage.Exchange w (λ e. cc));
+  reply = λ w. absurd (other stage.Reply w (λ e. cc));
+}
+  where
+    other : (at : Stage) → Waits at c → (stage.Dial ≡ at → ⊥) → ⊥
+    other at w ne = ne (sym waits.stage ∙ w.stage)
+
+pub server_then : {c d e : Conn} → KeepsServer c d → KeepsServer d e → KeepsServer c e
+server_then p q = λ ex. let k = q ex in let j = p k.0 in (j.0, k.1 ∙ j.1)
+
+-- the link to the server stays it where the machine has the same work
+pub serving_still : (c d : Conn) {link : ℕ} → d.phase ≡ c.phase → d.stage ≡ c.stage → d.current ≡ c.current → IsServer c (Some link) → IsServer d (Some link)
+serving_still c d phase at current s = (waits_still phase at s.0, s.1 ∙ ap (λ (m : Current). m.link) (sym current))
+
+pub server_given : {s : Seen} (c : Conn) {link : ℕ} → Linked s c → IsServer c (Some link) → s.is_open link ≡ true
+server_given {s} c {link} linked server = subst (λ (i : ℕ). s.is_open i ≡ true) (sym server.1) (linked.server server.0).is_open
+
+-- an event of the link to the server
+pub went_server : {s t : Seen} {l m : Lately} {f : Desk} {c d : Conn} (link : ℕ) (e : LinkEvent) → Linked s c → IsServer c (Some link) → note_by e ≡ []
+    → t ≡ with_event s (on link e) → OnlyAt link l m → Keeps c d → ((steps : List Step) → Reached steps c → Reached (steps ++ happened c.current.link e ∷ []) d)
+    → Went ⊥ (moment s l f c) (moment t m f d)
+went_server {s} {t} {l} {m} {f} {c} {d} link e linked server none is only keeps reached =
+    went_event link e linked (of_server server.0 server.1) (λ ne. none) is only keeps
+    (λ steps r. subst (λ (i : ℕ). Reached (steps ++ happened i e ∷ []) d) (sym server.1) (reached steps r))
+
+pub went_server_fault : {s t : Seen} {l m : Lately} {f : Desk} {c d : Conn} (link : ℕ) → Linked s c → IsServer c (Some link)
+    → Faulted s link t → OnlyAt link l m → Keeps c d → ((steps : List Step) → Reached steps c → Reached (steps ++ failed c.current.link ∷ []) d)
+    → Went ⊥ (moment s l f c) (moment t m f d)
+went_server_fault {s} {t} {l} {m} {f} {c} {d} link linked server fault only keeps reached =
+    went_fault link linked (of_server server.0 server.1) fault only keeps
+    (λ steps r. subst (λ (i : ℕ). Reached (steps ++ failed i ∷ []) d) (sym server.1) (reached steps r))
+
+-- a desk where nothing was done
+unfoldable pub no_desk : Desk
+no_desk = record { generations = []; pins = []; refused = 0; attended = λ n. None }

@@ -1,6 +1,7 @@
 -- When nothing more can be done for a connection before the next wait.
 use Rattle.std.specs.Prelude.{◌≡◌, ◌≢◌, ◌⊎◌, ℕ, ◌≤◌, List, [], Bool, true, length}
 use Rattle.link_world.specs.Lately.{Lately}
+use Rattle.conn_machine.specs.Prompt.{IsPrompt}
 use Rattle.conn_machine.specs.Reached.{IsOpen, pending_of, back_pending_of}
 use Rattle.conn_machine.specs.declared.parts.Stage.{Stage}
 use Rattle.conn_machine.specs.declared.parts.Stage.TheVariants.{Head, Pin, Route, Look, Down, Walk, Spent, Dial, Dialled, Exchange, Reply}
@@ -19,20 +20,6 @@ pub record ServerDone (l : Lately) (c : Conn) : Type 0 where
   pub read : IsRead l c.current.link
   pub written : back_pending_of c ≢ [] → l.write_quiet c.current.link ≡ true
 
--- it waits for bytes of the client, for its exchange, or for the client to take a reply
-abbrev pub RestsAt : Stage → Lately → Conn → Type 0
-RestsAt Head l c = Unit {0}
-RestsAt Pin l c = ⊥
-RestsAt Route l c = ⊥
-RestsAt Look l c = ⊥
-RestsAt Down l c = ⊥
-RestsAt Walk l c = ⊥
-RestsAt Spent l c = ⊥
-RestsAt Dial l c = ⊥
-RestsAt Dialled l c = ⊥
-RestsAt Exchange l c = ServerDone l c
-RestsAt Reply l c = pending_of c ≢ []
-
 -- a stage at which a connection may wait
 abbrev pub IsStanding : Stage → Type 0
 IsStanding Head = Unit {0}
@@ -47,10 +34,13 @@ IsStanding Dialled = ⊥
 IsStanding Exchange = Unit {0}
 IsStanding Reply = Unit {0}
 
+-- Each of its links is read and written. What it waits for hasn't come.
 pub record Rests (l : Lately) (c : Conn) : Type 0 where
+  pub standing : IsStanding c.stage
+  pub prompt : IsPrompt c
   pub read : ReadDone l c
   pub written : pending_of c ≢ [] → l.write_quiet c.client.link ≡ true
-  pub stage : RestsAt c.stage l c
+  pub server : c.stage ≡ Exchange → ServerDone l c
 
 -- it has ended or rests
 abbrev pub Calm : Lately → Conn → Type 0

@@ -5,6 +5,7 @@ use Rattle.link_world.specs.Lately.{Lately}
 use Rattle.desk.specs.Desks.{Desk}
 use Rattle.conversation.specs.Steps.{Step, IsNew}
 use Rattle.conversation.specs.Plans.{Plan}
+use Rattle.conn_machine.specs.Prompt.{IsPrompt}
 use Rattle.conn_machine.specs.Reached.{Reached, Waits}
 use Rattle.conn_machine.specs.declared.parts.Phase.TheVariants.{Open}
 use Rattle.conn_machine.specs.declared.parts.Stage.TheVariants as stage
@@ -59,8 +60,9 @@ pub record IsElse (s : Seen) (steps : List Step) (link : ℕ) : Type 0 where
   pub come : s.come link ≡ true
   pub quiet : IsNew link steps
 
--- it is open, its links are in order, and the number of its last pin is at most that of the last generation seen
+-- it is open and prompt, its links are in order, and the number of its last pin is at most that of the last generation seen
 pub record IsReady (s : Seen) (generations : List Plan) (c : Conn) : Type 0 where
   pub is_open : c.phase ≡ Open
+  pub prompt : IsPrompt c
   pub linked : Linked s c
   pub below : IsBelow generations c.current.number

@@ -3,6 +3,7 @@ ghost use Rattle.std.specs.Prelude.{◌≡◌, ◌<◌, ℕ, OnOk};
 ghost use Rattle.link_world.specs.Seen.{Seen};
 ghost use Rattle.link_world.specs.Lately.{Lately};
 ghost use Rattle.desk.specs.Desks.{IsAttended};
+ghost use Rattle.conn_machine.specs.Prompt.{IsPrompt};
 ghost use Rattle.conn_machine.specs.Reached.{Waits};
 ghost use Rattle.conn_service.specs.Moments.{moment, Linked};
 ghost use Rattle.conn_service.specs.Pins.{IsBelow};
@@ -25,7 +26,8 @@ pub(crate) fn choose<R: Wait, S: Shared>(
 ) -> Result<(), Memory>
     requires waits { Waits Stage.Pin conn.old }
     requires below { IsBelow (S.desk shared.old).generations conn.old.current.number }
-    ensures { (s : Seen) (l : Lately) → Linked s conn.old → Went ⊥ (moment s l (S.desk shared.old) conn.old) (moment s l (S.desk shared.new) conn.new) }
+    ensures prompt { IsPrompt conn.old → OnOk result (IsPrompt conn.new) }
+    ensures went { (s : Seen) (l : Lately) → Linked s conn.old → Went ⊥ (moment s l (S.desk shared.old) conn.old) (moment s l (S.desk shared.new) conn.new) }
 {
     pin(conn, rt, alloc, shared)?;
     look(conn, rt, alloc, shared)
@@ -41,6 +43,7 @@ fn pin<R: Wait, S: Shared>(
     requires waits { Waits Stage.Pin conn.old }
     requires below { IsBelow (S.desk shared.old).generations conn.old.current.number }
     ensures went { (s : Seen) (l : Lately) → Linked s conn.old → Went ⊥ (moment s l (S.desk shared.old) conn.old) (moment s l (S.desk shared.new) conn.new) }
+    ensures prompt { IsPrompt conn.old → OnOk result (IsPrompt conn.new) }
     ensures attended { OnOk result (IsAttended (S.desk shared.new) conn.new.current.number) }
     ensures looks { OnOk result (0 < (S.room shared.new).looks) }
     ensures picks { OnOk result (0 < (S.room shared.new).picks) }
@@ -62,7 +65,8 @@ fn look<R: Wait, S: Shared>(
     requires attended { IsAttended (S.desk shared.old) conn.old.current.number }
     requires looks { 0 < (S.room shared.old).looks }
     requires picks { 0 < (S.room shared.old).picks }
-    ensures { (s : Seen) (l : Lately) → Linked s conn.old → Went ⊥ (moment s l (S.desk shared.old) conn.old) (moment s l (S.desk shared.new) conn.new) }
+    ensures prompt { IsPrompt conn.old → OnOk result (IsPrompt conn.new) }
+    ensures went { (s : Seen) (l : Lately) → Linked s conn.old → Went ⊥ (moment s l (S.desk shared.old) conn.old) (moment s l (S.desk shared.new) conn.new) }
 {
     let Want::Look { node } = conn.want() else {
         return Ok(());
@@ -83,7 +87,8 @@ fn draw<R: Wait, S: Shared>(
 ) -> Result<(), Memory>
     requires attended { IsAttended (S.desk shared.old) conn.old.current.number }
     requires picks { 0 < (S.room shared.old).picks }
-    ensures { (s : Seen) (l : Lately) → Linked s conn.old → Went ⊥ (moment s l (S.desk shared.old) conn.old) (moment s l (S.desk shared.new) conn.new) }
+    ensures prompt { IsPrompt conn.old → OnOk result (IsPrompt conn.new) }
+    ensures went { (s : Seen) (l : Lately) → Linked s conn.old → Went ⊥ (moment s l (S.desk shared.old) conn.old) (moment s l (S.desk shared.new) conn.new) }
 {
     let Want::Walk { node } = conn.want() else {
         return Ok(());

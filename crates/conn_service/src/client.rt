@@ -1,7 +1,8 @@
 //! The client's link is read and written.
-ghost use Rattle.std.specs.Prelude.{◌≡◌, ◌≢◌, ◌≤◌, ◌<◌, ◌+◌, [], ℕ, length, true, false, IfOk, vec_len, vec_capacity};
+ghost use Rattle.std.specs.Prelude.{◌≡◌, ◌≢◌, ◌≤◌, ◌<◌, ◌+◌, [], ℕ, length, true, false, IfOk, OnOk, IfNone, IfSome, vec_len, vec_capacity};
 ghost use Rattle.link_world.specs.Lately.{Lately};
 ghost use Rattle.desk.specs.Desks.{Desk};
+ghost use Rattle.conn_machine.specs.Prompt.{IsPrompt};
 ghost use Rattle.conn_machine.specs.Reached.{IsOpen, KeepsServer, pending_of};
 ghost use Rattle.conn_service.specs.Moments.{moment, Linked};
 ghost use Rattle.conn_service.specs.Went.{Went};
@@ -10,7 +11,7 @@ ghost use Rattle.conn_service.specs.Counts.{Counted, Stays};
 ghost use Rattle.conn_service.specs.declared.turn.Reads.{Reads as ReadsOf};
 
 use crate::turn::Reads;
-use conn_machine::{Conn, Stage};
+use conn_machine::Conn;
 use link_world::{LinkRead, LinkWrite, World};
 use px_base::Memory;
 use std::alloc::Global;
@@ -29,21 +30,38 @@ pub(crate) fn receive<W: World>(
     ensures went { (g : Desk) → Went ⊥ (moment (W.seen world.old) (W.lately world.old) g conn.old)
         (moment (W.seen world.new) (W.lately world.new) g conn.new) }
     ensures server { KeepsServer conn.old conn.new }
+    ensures prompt { IsPrompt conn.old → OnOk result (IsPrompt conn.new) }
     ensures counted { Counted reads.new (W.lately world.new) conn.new }
     ensures still { IfOk result (λ moved. moved ≡ false → IsOpen conn.new
         → Stays (W.lately world.old) (W.lately world.new) conn.old conn.new × ReadDone (W.lately world.new) conn.new) }
 {
-    if !conn.is_open() || conn.over || reads.client >= 64 {
+    let Some(room) = room_for(conn, reads) else {
         return Ok(false);
-    }
-    let held = conn.input.len();
-    if held >= buffer.len() {
-        return Ok(false);
-    }
-    let room = buffer.len() - held;
+    };
     conn.reserve(room)?;
     reads.client += 1;
     receive_into(conn, alloc, world, &mut buffer[..room])
+}
+
+// How many bytes of the client may still wait, where its link may be read.
+fn room_for(conn: &Conn, reads: &Reads) -> Option<usize>
+    ensures none { IfNone result ((l : Lately) → Counted reads.now l conn.now → IsOpen conn.now → ReadDone l conn.now) }
+    ensures some { IfSome result (λ room. IsOpen conn.now × (0 < room) × (room ≤ 32768) × (reads.now.client < 64)) }
+{
+    if !conn.is_open() {
+        return None;
+    }
+    if conn.over {
+        return None;
+    }
+    if reads.client >= 64 {
+        return None;
+    }
+    let held = conn.input.as_slice().len();
+    if held >= 32768 {
+        return None;
+    }
+    Some(32768 - held)
 }
 
 // Reads the client's link once into this room.
@@ -60,6 +78,7 @@ fn receive_into<W: World>(
     ensures went { (g : Desk) → Went ⊥ (moment (W.seen world.old) (W.lately world.old) g conn.old)
         (moment (W.seen world.new) (W.lately world.new) g conn.new) }
     ensures server { KeepsServer conn.old conn.new }
+    ensures prompt { IsPrompt conn.old → OnOk result (IsPrompt conn.new) }
     ensures counted { (r : ReadsOf) → r.client < 64 → Counted r (W.lately world.old) conn.old
         → Counted (record r { client = r.client + 1 }) (W.lately world.new) conn.new }
     ensures still { IfOk result (λ moved. moved ≡ false
@@ -82,31 +101,25 @@ fn receive_into<W: World>(
     }
 }
 
-/// Writes what is pending for the client, or lets a request go whose reply it took. Answers whether anything came of it.
+/// Writes what is pending for the client. Answers whether anything came of it.
 pub(crate) fn answer<W: World>(conn: &mut Conn, alloc: Global, world: &mut W) -> Result<bool, Memory>
     requires { Linked (W.seen world.old) conn.old }
     ensures went { (g : Desk) → Went ⊥ (moment (W.seen world.old) (W.lately world.old) g conn.old)
         (moment (W.seen world.new) (W.lately world.new) g conn.new) }
     ensures server { KeepsServer conn.old conn.new }
+    ensures prompt { IsPrompt conn.old → OnOk result (IsPrompt conn.new) }
     ensures counted { (r : ReadsOf) → Counted r (W.lately world.old) conn.old → Counted r (W.lately world.new) conn.new }
     ensures still { IfOk result (λ moved. moved ≡ false → IsOpen conn.new → Stays (W.lately world.old) (W.lately world.new) conn.old conn.new
-        × (pending_of conn.new ≢ [] → (W.lately world.new).write_quiet conn.new.client.link ≡ true)
-        × (conn.new.stage ≡ Stage.Reply → pending_of conn.new ≢ [])) }
+        × (pending_of conn.new ≢ [] → (W.lately world.new).write_quiet conn.new.client.link ≡ true)) }
 {
     if !conn.is_open() {
         return Ok(false);
     }
+    if conn.pending().is_empty() {
+        return Ok(false);
+    }
     conn.reserve(0)?;
-    if !conn.pending().is_empty() {
-        return send(conn, alloc, world);
-    }
-    match conn.stage {
-        Stage::Reply => {
-            conn.settle(alloc)?;
-            Ok(true)
-        }
-        _ => Ok(false),
-    }
+    send(conn, alloc, world)
 }
 
 // Writes once what is pending for the client.
@@ -118,9 +131,10 @@ fn send<W: World>(conn: &mut Conn, alloc: Global, world: &mut W) -> Result<bool,
     ensures went { (g : Desk) → Went ⊥ (moment (W.seen world.old) (W.lately world.old) g conn.old)
         (moment (W.seen world.new) (W.lately world.new) g conn.new) }
     ensures server { KeepsServer conn.old conn.new }
+    ensures prompt { IsPrompt conn.old → OnOk result (IsPrompt conn.new) }
     ensures counted { (r : ReadsOf) → Counted r (W.lately world.old) conn.old → Counted r (W.lately world.new) conn.new }
     ensures still { IfOk result (λ moved. moved ≡ false → Stays (W.lately world.old) (W.lately world.new) conn.old conn.new
-        × (conn.new ≡ conn.old) × ((W.lately world.new).write_quiet conn.new.client.link ≡ true)) }
+        × ((W.lately world.new).write_quiet conn.new.client.link ≡ true)) }
 {
     match world.write(conn.client.link, conn.pending()) {
         LinkWrite::Took(n) => {

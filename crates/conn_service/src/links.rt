@@ -27,6 +27,7 @@ pub(crate) fn server_of(conn: &Conn) -> Option<u32>
 pub(crate) fn release<W: World>(conn: &Conn, world: &mut W, link: u32)
     ensures seen { Released conn.now link (W.seen world.old) (W.seen world.new) }
     ensures lately { OnlyAt link (W.lately world.old) (W.lately world.new) }
+    ensures still { IsExchanging conn.now → W.lately world.new ≡ W.lately world.old }
 {
     match server_of(conn) {
         Some(_) => {}

@@ -1,7 +1,8 @@
 //! The link to a server is dialled, written and read.
-ghost use Rattle.std.specs.Prelude.{◌≡◌, ◌≢◌, ◌≤◌, ◌<◌, ◌+◌, [], ℕ, length, true, false, IfOk, vec_len, vec_capacity};
+ghost use Rattle.std.specs.Prelude.{◌≡◌, ◌≢◌, ◌≤◌, ◌<◌, ◌+◌, [], ℕ, length, true, false, IfOk, OnOk, vec_len, vec_capacity};
 ghost use Rattle.link_world.specs.Lately.{Lately};
 ghost use Rattle.desk.specs.Desks.{Desk};
+ghost use Rattle.conn_machine.specs.Prompt.{IsPrompt};
 ghost use Rattle.conn_machine.specs.Reached.{IsOpen, KeepsServer, back_pending_of};
 ghost use Rattle.conn_service.specs.Moments.{moment, Linked, IsExchanging};
 ghost use Rattle.conn_service.specs.Went.{Went};
@@ -21,6 +22,7 @@ pub(crate) fn dial<W: World>(conn: &mut Conn, alloc: Global, world: &mut W) -> R
     requires { Linked (W.seen world.old) conn.old }
     ensures went { (g : Desk) → Went ⊥ (moment (W.seen world.old) (W.lately world.old) g conn.old)
         (moment (W.seen world.new) (W.lately world.new) g conn.new) }
+    ensures prompt { IsPrompt conn.old → OnOk result (IsPrompt conn.new) }
     ensures reads { (W.lately world.new).reads conn.old.client.link ≡ (W.lately world.old).reads conn.old.client.link }
 {
     let Want::Dial = conn.want() else {
@@ -42,6 +44,7 @@ pub(crate) fn ask<W: World>(conn: &mut Conn, alloc: Global, world: &mut W) -> Re
     ensures went { (g : Desk) → Went ⊥ (moment (W.seen world.old) (W.lately world.old) g conn.old)
         (moment (W.seen world.new) (W.lately world.new) g conn.new) }
     ensures server { KeepsServer conn.old conn.new }
+    ensures prompt { IsPrompt conn.old → OnOk result (IsPrompt conn.new) }
     ensures counted { (r : ReadsOf) → Counted r (W.lately world.old) conn.old → Counted r (W.lately world.new) conn.new }
     ensures still { IfOk result (λ moved. moved ≡ false → Stays (W.lately world.old) (W.lately world.new) conn.old conn.new
         × (IsExchanging conn.new → back_pending_of conn.new ≢ [] → (W.lately world.new).write_quiet conn.new.current.link ≡ true)) }
@@ -52,6 +55,7 @@ pub(crate) fn ask<W: World>(conn: &mut Conn, alloc: Global, world: &mut W) -> Re
     if conn.back_pending().is_empty() {
         return Ok(false);
     }
+    conn.reserve(0)?;
     match world.write(link, conn.back_pending()) {
         LinkWrite::Took(n) => {
             conn.back_took(n);
@@ -79,6 +83,7 @@ pub(crate) fn hear<W: World>(
     ensures went { (g : Desk) → Went ⊥ (moment (W.seen world.old) (W.lately world.old) g conn.old)
         (moment (W.seen world.new) (W.lately world.new) g conn.new) }
     ensures server { KeepsServer conn.old conn.new }
+    ensures prompt { IsPrompt conn.old → OnOk result (IsPrompt conn.new) }
     ensures counted { Counted reads.new (W.lately world.new) conn.new }
     ensures still { IfOk result (λ moved. moved ≡ false → Stays (W.lately world.old) (W.lately world.new) conn.old conn.new
         × (IsExchanging conn.new → IsRead (W.lately world.new) conn.new.current.link)) }
@@ -89,6 +94,7 @@ pub(crate) fn hear<W: World>(
     if reads.server >= 64 {
         return Ok(false);
     }
+    conn.reserve(0)?;
     reads.server += 1;
     match world.read(link, buffer) {
         LinkRead::Got(n) => {

@@ -1,6 +1,7 @@
 //! What a worker does with one connection in a turn, where it stops and where it finds no memory.
 ghost use Rattle.std.specs.Prelude.{◌≡◌, ◌⊎◌, [], OnOk, OnErr};
 ghost use Rattle.desk.specs.Desks.{Desk};
+ghost use Rattle.conn_machine.specs.Prompt.{IsPrompt};
 ghost use Rattle.conn_machine.specs.Reached.{IsOpen, IsFinished, IsEnding, notes_left};
 ghost use Rattle.conn_service.specs.Moments.{moment, Linked, IsTracked, IsReady};
 ghost use Rattle.conn_service.specs.Pins.{IsBelow};
@@ -80,6 +81,7 @@ fn attempt<R: Wait, W: World, S: Shared>(
 )
     requires linked { Linked (W.seen world.old) conn.old }
     requires below { IsBelow (S.desk shared.old).generations conn.old.current.number }
+    requires prompt { IsPrompt conn.old }
     ensures went { Went ⊥ (moment (W.seen world.old) (W.lately world.old) (S.desk shared.old) conn.old)
         (moment (W.seen world.new) (W.lately world.new) (S.desk shared.new) conn.new) }
     ensures kept { IsOpen conn.new ⊎ IsEnding conn.new.phase }

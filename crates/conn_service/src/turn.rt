@@ -1,6 +1,7 @@
 //! A connection's links are served until nothing moves.
 ghost use Rattle.std.specs.Prelude.{◌≡◌, ◌≢◌, ◌≤◌, [], ℕ, length, false, IfOk, OnOk};
 ghost use Rattle.desk.specs.Desks.{Desk};
+ghost use Rattle.conn_machine.specs.Prompt.{IsPrompt};
 ghost use Rattle.conn_machine.specs.Reached.{IsOpen};
 ghost use Rattle.conn_service.specs.Moments.{moment, Linked};
 ghost use Rattle.conn_service.specs.Pins.{IsBelow};
@@ -36,6 +37,7 @@ pub(crate) fn work<R: Wait, W: World, S: Shared>(
 ) -> Result<(), Memory>
     requires linked { Linked (W.seen world.old) conn.old }
     requires below { IsBelow (S.desk shared.old).generations conn.old.current.number }
+    requires prompt { IsPrompt conn.old }
     ensures went { Went ⊥ (moment (W.seen world.old) (W.lately world.old) (S.desk shared.old) conn.old)
         (moment (W.seen world.new) (W.lately world.new) (S.desk shared.new) conn.new) }
     ensures calm { OnOk result (Calm (W.lately world.new) conn.new) }
@@ -68,11 +70,13 @@ fn round<R: Wait, W: World, S: Shared>(
 ) -> Result<bool, Memory>
     requires linked { Linked (W.seen world.old) conn.old }
     requires below { IsBelow (S.desk shared.old).generations conn.old.current.number }
+    requires prompt { IsPrompt conn.old }
     requires open { IsOpen conn.old }
     requires buffer { length buffer.old ≡ 32768 }
     requires counted { Counted reads.old (W.lately world.old) conn.old }
     ensures went { Went ⊥ (moment (W.seen world.old) (W.lately world.old) (S.desk shared.old) conn.old)
         (moment (W.seen world.new) (W.lately world.new) (S.desk shared.new) conn.new) }
+    ensures prompt { OnOk result (IsPrompt conn.new) }
     ensures counted { OnOk result (Counted reads.new (W.lately world.new) conn.new) }
     ensures calm { IfOk result (λ moved. moved ≡ false → Calm (W.lately world.new) conn.new) }
 {
@@ -102,9 +106,11 @@ fn pass<W: World>(
     requires linked { Linked (W.seen world.old) conn.old }
     requires buffer { length buffer.old ≡ 32768 }
     requires stage { IsStanding conn.old.stage }
+    requires prompt { IsPrompt conn.old }
     requires counted { Counted reads.old (W.lately world.old) conn.old }
     ensures went { (g : Desk) → Went ⊥ (moment (W.seen world.old) (W.lately world.old) g conn.old)
         (moment (W.seen world.new) (W.lately world.new) g conn.new) }
+    ensures prompt { OnOk result (IsPrompt conn.new) }
     ensures counted { Counted reads.new (W.lately world.new) conn.new }
     ensures calm { IfOk result (λ moved. moved ≡ false → Calm (W.lately world.new) conn.new) }
 {
@@ -129,9 +135,11 @@ fn pass_once<W: World>(
     requires linked { Linked (W.seen world.old) conn.old }
     requires buffer { length buffer.old ≡ 32768 }
     requires stage { IsStanding conn.old.stage }
+    requires prompt { IsPrompt conn.old }
     requires counted { Counted reads.old (W.lately world.old) conn.old }
     ensures went { (g : Desk) → Went ⊥ (moment (W.seen world.old) (W.lately world.old) g conn.old)
         (moment (W.seen world.new) (W.lately world.new) g conn.new) }
+    ensures prompt { OnOk result (IsPrompt conn.new) }
     ensures counted { Counted reads.new (W.lately world.new) conn.new }
     ensures calm { IfOk result (λ moved. moved ≡ false → Calm (W.lately world.new) conn.new) }
 {
@@ -139,5 +147,12 @@ fn pass_once<W: World>(
     let asked = ask(conn, alloc, world)?;
     let heard = hear(conn, alloc, world, buffer, reads)?;
     let answered = answer(conn, alloc, world)?;
-    Ok(received || asked || heard || answered)
+    Ok(any(received, asked, heard, answered))
+}
+
+// One of these holds.
+fn any(received: bool, asked: bool, heard: bool, answered: bool) -> bool
+    ensures { result ≡ false → (received ≡ false) × (asked ≡ false) × (heard ≡ false) × (answered ≡ false) }
+{
+    received || asked || heard || answered
 }

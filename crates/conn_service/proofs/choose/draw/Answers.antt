@@ -6,15 +6,15 @@ use Rattle.conn_machine.specs.Reached.{Waits}
 use Rattle.desk.specs.Desks.{IsAttended}
 use Rattle.conversation.specs.Steps.{drew, spent}
 use Rattle.conn_service.proofs.Lists.{no_steps}
-use Rattle.conn_service.proofs.Wents.{went_same, went_none, went_then, went_desk, keeps_same, keeps_server, linked_still, idle_at, reached_still, waits_still, wants_still}
+use Rattle.conn_service.proofs.Wents.{went_same, went_none, went_then, went_desk, keeps_same, keeps_server, linked_still, idle_at, reached_still, prompt_dial, waits_still, wants_still}
 use Rattle.conn_service.proofs.Desks.{desk_drew, desk_undrawn, first_child}
 use Rattle.conn_service.proofs.choose.draw.Goals as goal
 
-pub returns-in_default : goal.returns-in_default
-returns-in_default g c = λ s l linked. went_same linked
+pub returns-in_default-clause-went : goal.returns-in_default-clause-went
+returns-in_default-clause-went g c = λ s l linked. went_same linked
 
-pub returns-in_err-reserve : goal.returns-in_err-reserve
-returns-in_err-reserve g c = λ s l linked. went_none linked (keeps_same c.reserve.ensures.client c.reserve.ensures.current c.reserve.ensures.phase c.reserve.ensures.stage) c.reserve.ensures.reached
+pub returns-in_err-reserve-clause-went : goal.returns-in_err-reserve-clause-went
+returns-in_err-reserve-clause-went g c = λ s l linked. went_none linked (keeps_same c.reserve.ensures.client c.reserve.ensures.current c.reserve.ensures.phase c.reserve.ensures.stage) c.reserve.ensures.reached
 
 pub draw-requires-clause-attended : goal.draw-requires-clause-attended
 draw-requires-clause-attended g c = subst (λ (m : Current). IsAttended (g.S.Shared.desk c.args.shared.now) m.number) (sym c.reserve.ensures.current) c.requires.attended
@@ -37,23 +37,26 @@ spent-requires-clause-waits g c = waits_still c.reserve.ensures.phase c.reserve.
 pub spent-requires-clause-node : goal.spent-requires-clause-node
 spent-requires-clause-node g c = wants_still c.args.conn.now c.reserve.new.self c.reserve.ensures.current c.in-Walk.ensures.1
 
-pub returns-in-Pick : goal.returns-in-Pick
-returns-in-Pick g c = λ s l linked.
+pub returns-in-Pick-clause-went : goal.returns-in-Pick-clause-went
+returns-in-Pick-clause-went g c = λ s l linked.
     let keeps = keeps_same c.reserve.ensures.client c.reserve.ensures.current c.reserve.ensures.phase c.reserve.ensures.stage in
     went_then (went_none linked keeps c.reserve.ensures.reached)
     (went_desk (linked_still linked keeps) c.drew.ensures.client (λ is. c.reserve.ensures.phase ∙ c.in-Walk.ensures.0.phase) (idle_at c.drew.ensures.waits (λ is. cc))
     (λ k. record { quiet = refl; sound = refl }) refl (desk_drew (drew _) c.in-Pick.ensures.seat c.in-Pick.ensures.drawn refl refl refl c.drew.ensures.number) c.drew.ensures.reached)
 
-pub returns-in-NoneUp : goal.returns-in-NoneUp
-returns-in-NoneUp g c = λ s l linked.
+pub returns-in-NoneUp-clause-went : goal.returns-in-NoneUp-clause-went
+returns-in-NoneUp-clause-went g c = λ s l linked.
     let keeps = keeps_same c.reserve.ensures.client c.reserve.ensures.current c.reserve.ensures.phase c.reserve.ensures.stage in
     went_then (went_none linked keeps c.reserve.ensures.reached)
     (went_desk (linked_still linked keeps) refl (λ is. is) (λ ex. (ex, refl)) (λ k. no_steps k) refl
     (desk_undrawn c.in-NoneUp.ensures.seat c.in-NoneUp.ensures.drawn refl refl) (reached_still (λ steps r. r)))
 
-pub returns-in-Spent : goal.returns-in-Spent
-returns-in-Spent g c = λ s l linked.
+pub returns-in-Spent-clause-went : goal.returns-in-Spent-clause-went
+returns-in-Spent-clause-went g c = λ s l linked.
     let keeps = keeps_same c.reserve.ensures.client c.reserve.ensures.current c.reserve.ensures.phase c.reserve.ensures.stage in
     went_then (went_none linked keeps c.reserve.ensures.reached)
     (went_desk (linked_still linked keeps) c.spent.ensures.client (λ is. c.reserve.ensures.phase ∙ c.in-Walk.ensures.0.phase) c.spent.ensures.server
     (λ k. record { quiet = refl; sound = refl }) refl (desk_drew (spent _) c.in-Spent.ensures.seat c.in-Spent.ensures.drawn refl refl refl c.spent.ensures.number) c.spent.ensures.reached)
+
+pub returns-in-Pick-clause-prompt : goal.returns-in-Pick-clause-prompt
+returns-in-Pick-clause-prompt g c = λ before. prompt_dial c.drew.ensures.waits

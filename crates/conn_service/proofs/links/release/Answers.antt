@@ -10,3 +10,9 @@ returns-in-Some-clause-lately g c = only_none _ _
 
 pub returns-in-None-clause-seen : goal.returns-in-None-clause-seen
 returns-in-None-clause-seen g c = inr (c.in-None.ensures, c.close.ensures.seen)
+
+pub returns-in-Some-clause-still : goal.returns-in-Some-clause-still
+returns-in-Some-clause-still g c = λ ex. refl
+
+pub returns-in-None-clause-still : goal.returns-in-None-clause-still
+returns-in-None-clause-still g c = λ ex. absurd (c.in-None.ensures ex)
