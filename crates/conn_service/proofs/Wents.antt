@@ -511,3 +511,9 @@ went_server_fault {s} {t} {l} {m} {f} {c} {d} link linked server fault only keep
 -- a desk where nothing was done
 unfoldable pub no_desk : Desk
 no_desk = record { generations = []; pins = []; refused = 0; attended = λ n. None }
+
+-- the world stood still
+pub went_idle : {s t : Seen} {l m : Lately} {f : Desk} {c d : Conn} → Linked s c → t ≡ s → m ≡ l → Keeps c d → ((steps : List Step) → Reached steps c → Reached steps d)
+    → Went ⊥ (moment s l f c) (moment t m f d)
+went_idle {s} {t} {l} {m} {f} {c} {d} linked is same keeps reached =
+    went_quiet c.client.link linked (of_client refl) is (subst (λ (x : Lately). OnlyAt c.client.link l x) (sym same) (only_none c.client.link l)) keeps reached

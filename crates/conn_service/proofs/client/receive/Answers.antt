@@ -1,4 +1,4 @@
-use Rattle.std.proofs.Common.{refl, inl, inr, absurd, subst, sym, ℕ, ◌∙◌}
+use Rattle.std.proofs.Common.{refl, inl, inr, subst, sym, ℕ, ◌∙◌}
 use Rattle.conn_service.proofs.Lists.{not_false}
 use Rattle.conn_service.proofs.Wents.{went_same, went_none, went_then, keeps_same, keeps_server, server_then, linked_still}
 use Rattle.conn_service.proofs.Counts.{counted_same, stays_work, stays_then, work_same, if_ok}
@@ -11,7 +11,7 @@ pub returns-in_default-clause-server : goal.returns-in_default-clause-server
 returns-in_default-clause-server g c = λ ex. (ex, refl)
 
 pub returns-in_default-clause-still : goal.returns-in_default-clause-still
-returns-in_default-clause-still g c = λ e open_. (stays_work _ (work_same _), ?)
+returns-in_default-clause-still g c = λ e open_. (stays_work _ (work_same _), c.in_default.ensures.none _ c.requires.counted open_)
 
 pub returns-in_err-reserve-clause-went : goal.returns-in_err-reserve-clause-went
 returns-in_err-reserve-clause-went g c = λ desk. went_none c.requires.linked (keeps_same c.reserve.ensures.client c.reserve.ensures.current c.reserve.ensures.phase c.reserve.ensures.stage) c.reserve.ensures.reached

@@ -1,4 +1,4 @@
-use Rattle.std.proofs.Common.{refl, inl, absurd}
+use Rattle.std.proofs.Common.{refl, inl}
 use Rattle.link_world.specs.Log.{gave, gave_end}
 use Rattle.conn_service.proofs.Lists.{not_false}
 use Rattle.conn_service.proofs.Wents.{went_event, went_fault, went_quiet, of_client, keeps_open, keeps_all, keeps_ending, ending_from, server_from, prompt_ending}

@@ -1,4 +1,4 @@
-use Rattle.std.proofs.Common.{refl, inl, inr, ℕ, ◌≡◌, ◌≤◌, length, arith, true, false, rules, absurd, subst}
+use Rattle.std.proofs.Common.{refl, inl, inr, ℕ, List, ◌≡◌, ◌≤◌, length, arith, true, false, rules, subst}
 use Rattle.conn_service.proofs.Lists.{not_false}
 use Rattle.conn_service.proofs.client.room_for.Goals as goal
 
@@ -12,4 +12,4 @@ pub returns-then-reads-ge64-clause-none : goal.returns-then-reads-ge64-clause-no
 returns-then-reads-ge64-clause-none c = λ l h open_. inr (inr (inr (omega (arith, h.client))))
 
 pub returns-then-held-ge32768-clause-none : goal.returns-then-held-ge32768-clause-none
-returns-then-held-ge32768-clause-none c = λ l h open_. inr (inl ?)
+returns-then-held-ge32768-clause-none c = λ l h open_. inr (inl (subst (λ (x : List ℕ). 32768 ≤ length x) c.as_slice-held.ensures.value c.if-held-ge32768.true))

@@ -1,4 +1,4 @@
-use Rattle.std.proofs.Common.{refl, inl, inr, absurd, subst, sym, ap, ◌∙◌, ◌≡◌, ℕ, List, length, ◌<◌, ◌≤◌, true, false, rules, Option, arith}
+use Rattle.std.proofs.Common.{refl, inl, inr, subst, sym, ap, ◌∙◌, ◌≡◌, ℕ, List, length, ◌<◌, ◌≤◌, true, false, rules, Option, arith}
 use Rattle.link_world.specs.Log.{took, gave, gave_end}
 use Rattle.conn_machine.specs.Reached.{back_pending_of, pending_to}
 use Rattle.conn_machine.specs.declared.parts.Current.{Current}
@@ -13,7 +13,7 @@ pub returns-in_default-clause-server : goal.returns-in_default-clause-server
 returns-in_default-clause-server g c = λ ex. (ex, refl)
 
 pub returns-in_default-clause-still : goal.returns-in_default-clause-still
-returns-in_default-clause-still g c = λ e. (stays_work _ (work_same _), ?)
+returns-in_default-clause-still g c = λ e. (stays_work _ (work_same _), λ ex some. absurd (c.in_default.ensures ex))
 
 pub returns-in_err-reserve-clause-went : goal.returns-in_err-reserve-clause-went
 returns-in_err-reserve-clause-went g c = λ desk. went_none c.requires (keeps_same c.reserve.ensures.client c.reserve.ensures.current c.reserve.ensures.phase c.reserve.ensures.stage) c.reserve.ensures.reached
