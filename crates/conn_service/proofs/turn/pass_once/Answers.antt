@@ -4,40 +4,40 @@ use Rattle.conn_service.proofs.Calms.{rests_from}
 use Rattle.conn_service.proofs.turn.pass_once.Goals as goal
 
 pub returns-in_err-received-clause-went : goal.returns-in_err-received-clause-went
-returns-in_err-received-clause-went g c = c.receive-received.ensures.went
+returns-in_err-received-clause-went g c = c.receive.ensures.went
 
-pub ask-asked-requires : goal.ask-asked-requires
-ask-asked-requires g c = (c.receive-received.ensures.went no_desk).conn.linked
+pub ask-requires : goal.ask-requires
+ask-requires g c = (c.receive.ensures.went no_desk).conn.linked
 
 pub returns-in_err-asked-clause-went : goal.returns-in_err-asked-clause-went
-returns-in_err-asked-clause-went g c = λ desk. went_then (c.receive-received.ensures.went desk) (c.ask-asked.ensures.went desk)
+returns-in_err-asked-clause-went g c = λ desk. went_then (c.receive.ensures.went desk) (c.ask.ensures.went desk)
 
 pub returns-in_err-asked-clause-counted : goal.returns-in_err-asked-clause-counted
-returns-in_err-asked-clause-counted g c = c.ask-asked.ensures.counted _ c.receive-received.ensures.counted
+returns-in_err-asked-clause-counted g c = c.ask.ensures.counted _ c.receive.ensures.counted
 
-pub hear-heard-requires-clause-linked : goal.hear-heard-requires-clause-linked
-hear-heard-requires-clause-linked g c = (c.ask-asked.ensures.went no_desk).conn.linked
+pub hear-requires-clause-linked : goal.hear-requires-clause-linked
+hear-requires-clause-linked g c = (c.ask.ensures.went no_desk).conn.linked
 
-pub hear-heard-requires-clause-counted : goal.hear-heard-requires-clause-counted
-hear-heard-requires-clause-counted g c = c.ask-asked.ensures.counted _ c.receive-received.ensures.counted
+pub hear-requires-clause-counted : goal.hear-requires-clause-counted
+hear-requires-clause-counted g c = c.ask.ensures.counted _ c.receive.ensures.counted
 
 pub returns-in_err-heard-clause-went : goal.returns-in_err-heard-clause-went
-returns-in_err-heard-clause-went g c = λ desk. went_then (c.receive-received.ensures.went desk) (went_then (c.ask-asked.ensures.went desk) (c.hear-heard.ensures.went desk))
+returns-in_err-heard-clause-went g c = λ desk. went_then (c.receive.ensures.went desk) (went_then (c.ask.ensures.went desk) (c.hear.ensures.went desk))
 
-pub answer-answered-requires : goal.answer-answered-requires
-answer-answered-requires g c = (c.hear-heard.ensures.went no_desk).conn.linked
+pub answer-requires : goal.answer-requires
+answer-requires g c = (c.hear.ensures.went no_desk).conn.linked
 
 pub returns-in_err-answered-clause-went : goal.returns-in_err-answered-clause-went
-returns-in_err-answered-clause-went g c = λ desk. went_then (c.receive-received.ensures.went desk) (went_then (c.ask-asked.ensures.went desk) (went_then (c.hear-heard.ensures.went desk) (c.answer-answered.ensures.went desk)))
+returns-in_err-answered-clause-went g c = λ desk. went_then (c.receive.ensures.went desk) (went_then (c.ask.ensures.went desk) (went_then (c.hear.ensures.went desk) (c.answer.ensures.went desk)))
 
 pub returns-in_err-answered-clause-counted : goal.returns-in_err-answered-clause-counted
-returns-in_err-answered-clause-counted g c = c.answer-answered.ensures.counted _ c.hear-heard.ensures.counted
+returns-in_err-answered-clause-counted g c = c.answer.ensures.counted _ c.hear.ensures.counted
 
 pub returns-clause-went : goal.returns-clause-went
-returns-clause-went g c = λ desk. went_then (c.receive-received.ensures.went desk) (went_then (c.ask-asked.ensures.went desk) (went_then (c.hear-heard.ensures.went desk) (c.answer-answered.ensures.went desk)))
+returns-clause-went g c = λ desk. went_then (c.receive.ensures.went desk) (went_then (c.ask.ensures.went desk) (went_then (c.hear.ensures.went desk) (c.answer.ensures.went desk)))
 
 pub returns-clause-counted : goal.returns-clause-counted
-returns-clause-counted g c = c.answer-answered.ensures.counted _ c.hear-heard.ensures.counted
+returns-clause-counted g c = c.answer.ensures.counted _ c.hear.ensures.counted
 
 pub returns-clause-prompt : goal.returns-clause-prompt
 returns-clause-prompt g c = c.in_ok-answered.ensures.prompt (c.in_ok-heard.ensures.prompt (c.in_ok-asked.ensures.prompt (c.in_ok-received.ensures.prompt c.requires.prompt)))
