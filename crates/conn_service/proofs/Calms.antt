@@ -2,13 +2,19 @@
 use Rattle.std.proofs.Common.{◌≡◌, ◌≢◌, ◌⊎◌, ℕ, ◌+◌, ◌<◌, ◌≤◌, List, [], length, refl, sym, ◌∙◌, ap, subst, inl, inr, arith, true, false, Bool}
 use Rattle.link_world.specs.Lately.{Lately, OnlyAt, SameAt}
 use Rattle.conn_machine.specs.Prompt.{IsPrompt}
-use Rattle.conn_machine.specs.Reached.{IsOpen, pending_of, pending_to, back_pending_of}
+use Rattle.std.specs.Prelude.{Result, Ok, Err, OnOk, Vec}
+use Rattle.std.specs.declared.alloc.Global.{Global}
+use Rattle.link_world.specs.Seen.{Seen}
+use Rattle.link_world.specs.declared.note.Note.{Note}
+use Rattle.conversation.specs.Plans.{Plan}
+use Rattle.conn_machine.specs.Reached.{IsOpen, IsEnding, IsFinished, IsTold, pending_of, pending_to, back_pending_of}
 use Rattle.conn_machine.specs.declared.parts.Client.{Client}
 use Rattle.conn_machine.specs.declared.parts.Current.{Current}
 use Rattle.conn_machine.specs.declared.parts.Stage.{Stage}
 use Rattle.conn_machine.specs.declared.parts.Stage.TheVariants as stage
 use Rattle.conn_machine.specs.declared.conn.Conn.{Conn}
-use Rattle.conn_service.specs.Moments.{IsExchanging, Linked}
+use Rattle.conn_service.specs.Moments.{IsExchanging, IsReady, Linked}
+use Rattle.conn_service.specs.Pins.{IsBelow}
 use Rattle.conn_service.specs.Calm.{IsRead, ReadDone, ServerDone, IsStanding, Rests, Calm}
 use Rattle.conn_service.specs.Counts.{Counted, SameWork, Stays}
 use Rattle.conn_service.specs.declared.turn.Reads.{Reads}
@@ -92,3 +98,43 @@ counted_reset {r} {l} {m} {c} {d} same h = record {
 -- one that doesn't wait isn't calm only while it is open
 pub calm_closed : {l : Lately} {c : Conn} → (IsOpen c → ⊥) → Calm l c
 calm_closed no_ = λ opened. absurd (no_ opened)
+
+prompt_notes : (c : Conn) (n : Vec Note Global) → IsPrompt c → IsPrompt (record c { notes = n })
+prompt_notes c n p = record {
+  goes_on = λ w. p.goes_on (record { phase = w.phase; stage = w.stage });
+  part = λ w. p.part (record { phase = w.phase; stage = w.stage });
+  exchange = λ w. p.exchange (record { phase = w.phase; stage = w.stage });
+  reply = λ w. p.reply (record { phase = w.phase; stage = w.stage });
+}
+
+calm_notes : (l : Lately) (c : Conn) (n : Vec Note Global) → Calm l c → Calm l (record c { notes = n })
+calm_notes l c n calm = λ opened. let r = calm opened in record {
+  standing = r.standing;
+  prompt = prompt_notes c n r.prompt;
+  read = r.read;
+  written = r.written;
+  server = λ at. let s = r.server at in record { read = s.read; written = s.written };
+}
+
+finished_closed : (d : Conn) → IsFinished d → IsOpen d → ⊥
+finished_closed d done opened = subst IsTold opened done.1
+
+-- calm after its notes were told
+pub calm_told : {T E : Type 0} (r : Result T E) {l m n : Lately} (b d : Conn) → IsOpen b ⊎ IsEnding b.phase → Calm l b → (IsOpen b → m ≡ l) → n ≡ m
+    → OnOk r (IsOpen b → d ≡ record b { notes = d.notes }) → OnOk r (IsEnding b.phase → IsFinished d) → OnOk r (Calm n d)
+calm_told (Err e) b d kept calm hung told same done = tt
+calm_told (Ok x) {l} {m} {n} b d (inl opened) calm hung told same done =
+    subst (λ (y : Conn). Calm n y) (sym (same opened)) (subst (λ (y : Lately). Calm y (record b { notes = d.notes })) (sym (told ∙ hung opened)) (calm_notes l b d.notes calm))
+calm_told (Ok x) {l} {m} {n} b d (inr end) calm hung told same done = calm_closed (finished_closed d (done end))
+
+-- ready after its notes were told
+pub ready_told : {T E : Type 0} (r : Result T E) (s : Seen) {l : Lately} (generations : List Plan) (b d : Conn) → IsOpen b ⊎ IsEnding b.phase → Calm l b
+    → OnOk r (Linked s d × IsBelow generations d.current.number) → OnOk r (IsOpen b → d ≡ record b { notes = d.notes }) → OnOk r (IsEnding b.phase → IsFinished d) → OnOk r (IsFinished d ⊎ IsReady s generations d)
+ready_told (Err e) s generations b d kept calm went same done = tt
+ready_told (Ok x) s generations b d (inl opened) calm went same done = inr (record {
+  is_open = ap (λ (y : Conn). y.phase) (same opened) ∙ opened;
+  prompt = subst (λ (y : Conn). IsPrompt y) (sym (same opened)) (prompt_notes b d.notes (calm opened).prompt);
+  linked = went.0;
+  below = went.1;
+})
+ready_told (Ok x) s generations b d (inr end) calm went same done = inl (done end)

@@ -12,15 +12,15 @@ use Rattle.link_world.specs.declared.note.Note.{Note}
 use Rattle.desk.specs.Desks.{Desk, Grew}
 use Rattle.conversation.specs.Plans.{Plan}
 use Rattle.conversation.specs.Steps.{Step, happened, failed, stopped, history, failures, stops, stops_by, IsNew, pins_by, looks_by, picks_by}
-use Rattle.conversation.specs.Turns.{Turn, BackLink, IsTold, IsLinkTold, IsShown}
+use Rattle.conversation.specs.Turns.{Turn, BackLink, IsLinkTold, IsShown}
 use Rattle.conversation.specs.Served.{IfLast, IsAnswered}
-use Rattle.conn_machine.specs.Reached.{Reached, KeepsServer, IsEnding, Waits, WantsNode, IsUnended, PhaseHolds, pending_of}
+use Rattle.conn_machine.specs.Reached.{Reached, IsOpen, IsNotOver, IsTold, KeepsServer, IsEnding, Waits, WantsNode, IsUnended, PhaseHolds, pending_of}
 use Rattle.conn_machine.specs.Parts.{AtStage}
 use Rattle.conn_machine.specs.Prompt.{IsPrompt}
 use Rattle.conn_machine.specs.declared.parts.Client.{Client}
 use Rattle.conn_machine.specs.declared.parts.Current.{Current}
 use Rattle.conn_machine.specs.declared.parts.Phase.{Phase}
-use Rattle.conn_machine.specs.declared.parts.Phase.TheVariants.{Open}
+use Rattle.conn_machine.specs.declared.parts.Phase.TheVariants.{Open, Broken, Over, Told}
 use Rattle.conn_machine.specs.declared.parts.Stage.{Stage}
 use Rattle.conn_machine.specs.declared.parts.Stage.TheVariants as stage
 use Rattle.conn_machine.specs.declared.conn.Conn.{Conn}
@@ -517,3 +517,27 @@ pub went_idle : {s t : Seen} {l m : Lately} {f : Desk} {c d : Conn} → Linked s
     → Went ⊥ (moment s l f c) (moment t m f d)
 went_idle {s} {t} {l} {m} {f} {c} {d} linked is same keeps reached =
     went_quiet c.client.link linked (of_client refl) is (subst (λ (x : Lately). OnlyAt c.client.link l x) (sym same) (only_none c.client.link l)) keeps reached
+
+-- a note is taken from one that is open or ends
+pub keeps_note : {c d : Conn} → IsOpen c ⊎ IsEnding c.phase → (IsOpen c → d ≡ record c { notes = d.notes }) → (IsEnding c.phase → IsEnding d.phase) → d.client ≡ c.client → d.current.number ≡ c.current.number → Keeps c d
+keeps_note {c} {d} (inl opened) same ending client number = let is = same opened in
+    keeps_same client (ap (λ (x : Conn). x.current) is) (ap (λ (x : Conn). x.phase) is) (ap (λ (x : Conn). x.stage) is)
+keeps_note {c} {d} (inr end) same ending client number = keeps_ending (ending end) client number
+
+pub still_kept : (b c : Conn) → IsOpen b ⊎ IsEnding b.phase → (IsOpen b → c ≡ record b { notes = c.notes }) → (IsEnding b.phase → IsEnding c.phase) → IsOpen c ⊎ IsEnding c.phase
+still_kept b c (inl opened) same ending = inl (ap (λ (x : Conn). x.phase) (same opened) ∙ opened)
+still_kept b c (inr end) same ending = inr (ending end)
+
+pub notes_then : (b c d : Conn) → (IsOpen b → c ≡ record b { notes = c.notes }) → (IsOpen c → d ≡ record c { notes = d.notes }) → IsOpen b → d ≡ record b { notes = d.notes }
+notes_then b c d p q opened = let is = p opened in q (ap (λ (x : Conn). x.phase) is ∙ opened) ∙ ap (λ (x : Conn). let y : Conn = record x { notes = d.notes } in y) is
+
+-- a note that was refused is lost
+pub lost_note : {S : Type 0} {x : Moment} {t u : Seen} {m n : Lately} {f : Desk} {d : Conn} → Went S x (moment t m f d) → (k : ℕ) × (t.waits_failed ≤ k) × (u ≡ record t { waits_failed = k }) → n ≡ m → IsUnended d → Lost S x u n f
+lost_note {S} {x} {t} {u} {m} {n} {f} {d} w refused same un =
+    (d, subst (λ (l : Lately). Went S x (moment u l f d)) (sym same) (went_unnoted w refused.1 refused.2), un)
+
+pub told_of : (q : Phase) → IsEnding q → IsNotOver q → IsTold q
+told_of Open end over = end
+told_of Broken end over = end
+told_of (Over cause) end over = over
+told_of (Told cause) end over = tt

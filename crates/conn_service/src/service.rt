@@ -91,9 +91,10 @@ fn attempt<R: Wait, W: World, S: Shared>(
         give_up(conn, world);
         return;
     };
-    if !conn.is_open() {
-        give_up(conn, world);
+    if conn.is_open() {
+        return;
     }
+    give_up(conn, world);
 }
 
 // Gives a connection up, and closes the link to its server. It takes no memory, and does nothing where it has ended.
