@@ -1,0 +1,4 @@
+pub mod Lists
+pub mod Frames
+pub mod Servings
+pub mod Comings

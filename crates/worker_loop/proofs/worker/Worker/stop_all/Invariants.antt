@@ -1,0 +1,12 @@
+use Rattle.std.proofs.Common.{List}
+use Rattle.link_world.specs.Seen.{Seen}
+use Rattle.conversation.specs.Plans.{Plan}
+use Rattle.worker_loop.specs.Runs.{Runs, Stopping, IsStopping, Unasked}
+use Rattle.worker_loop.proofs.worker.Worker.stop_all.Given as goal
+
+-- the connections stay attended, and a run with a reason to stop goes on
+abbrev pub invariant-loop-key : goal.invariant-loop-key
+invariant-loop-key g l =
+    IsStopping (g.W.World.seen l.world) l.self.conns
+    × ((base : Seen) (gens : List Plan) → Stopping base (g.W.World.seen l.fn.world) → Runs base (g.W.World.seen l.fn.world) gens l.fn.self.conns → Runs base (g.W.World.seen l.world) gens l.self.conns × Stopping base (g.W.World.seen l.world))
+    × Unasked (g.W.World.seen l.fn.world) (g.W.World.seen l.world)
