@@ -1,10 +1,10 @@
 -- A worker's run over arrivals, the clock, waits and stops, and when it is settled.
 use Rattle.std.proofs.Common.{◌≡◌, ◌≢◌, ◌⊎◌, ℕ, ◌+◌, ◌<◌, ◌≤◌, List, [], ◌∷◌, ◌++◌, Option, Some, None, refl, zero, suc, length, get_or, sym, ◌∙◌, ap, subst, inl, inr, arith, true, false, Bool}
 use Rattle.std.specs.Prelude.{IfSome, ◌==◌, Result, Ok, Err}
-use Rattle.std.specs.List.{AllByRecursion, Contains}
+use Rattle.std.specs.List.{AllByRecursion, Contains, flat_map}
 use Rattle.std.proofs.lemmas.Bool.{cases_eq, cases_lt}
 use Rattle.std.proofs.lemmas.Bool.Decides.{nat_tests}
-use Rattle.std.proofs.lemmas.List.{append_assoc}
+use Rattle.std.proofs.lemmas.List.{append_assoc, append-nil}
 use Rattle.ip_net.specs.declared.ip.Ip.{Ip}
 use Rattle.slab.specs.Slab.{Slab, get}
 use Rattle.link_world.specs.declared.note.Note.{Note}
@@ -17,7 +17,9 @@ use Rattle.link_world.specs.Lately.{Lately, SameAt}
 use Rattle.conversation.specs.Plans.{Plan}
 use Rattle.desk.specs.Desks.{Desk}
 use Rattle.conversation.specs.Steps.{Step, happened, history, IsNew}
-use Rattle.conversation.specs.Served.{end_note}
+use Rattle.conversation.specs.Served.{end_note, of_all, pin_of, notes_of}
+use Rattle.conversation.specs.Turns.{Turn}
+use Rattle.conn_machine.specs.Reached.{ending_note, closed_by}
 use Rattle.conn_machine.specs.declared.conn.Conn.{Conn}
 use Rattle.conn_machine.specs.declared.parts.Stage.{Stage}
 use Rattle.conn_machine.specs.declared.parts.Stage.TheVariants.{Head, Pin, Route, Look, Down, Walk, Spent, Dial, Dialled, Exchange, Reply}
@@ -79,12 +81,39 @@ first_shows {now} {new} a arrival =
           inr (sym whole)
     ]
 
-came_mute : (l link : ℕ) (entry : List ℕ) (peer : Ip) → notes (history_of l (on link (came entry peer) ∷ [])) ≡ []
+pub came_mute : (l link : ℕ) (entry : List ℕ) (peer : Ip) → notes (history_of l (on link (came entry peer) ∷ [])) ≡ []
 came_mute l link entry peer = mute (l == link)
   where
     mute : (b : Bool) → notes (only_if b (came entry peer ∷ []) ++ []) ≡ []
     mute true = refl
     mute false = refl
+
+done_none : (done : List Turn) (last : Option Turn) → [] ≡ of_all pin_of done last → (done ≡ []) × (last ≡ None)
+done_none [] None is = (refl, refl)
+done_none [] (Some t) is = absurd (let f : ⊥ = cc in f)
+done_none (t ∷ done) last is = absurd (let f : ⊥ = cc in f)
+
+-- a connection that just came has no note to tell
+pub began_untold : {a : Arrival} {d : Conn} → Began a d → d.notes.items ≡ []
+began_untold {a} {d} began =
+    let r = began.reached in
+    let h = r.kept.holds in
+    let none = done_none r.done r.last h.pinned in
+    waits_none (notes (history d.client.link (first_steps a))) d.notes.items (mute (d.client.link == a.link))
+    (h.noted ∙ ap (λ (e : List Note). (flat_map (notes_of d.client.link) r.done ++ closed_by d.current.pinned d.client.link r.last) ++ e) (ap (ending_note d.client.link) began.waits.phase)
+    ∙ append-nil (flat_map (notes_of d.client.link) r.done ++ closed_by d.current.pinned d.client.link r.last)
+    ∙ ap (λ (o : List Turn). flat_map (notes_of d.client.link) o ++ closed_by d.current.pinned d.client.link r.last) none.0
+    ∙ ap (closed_by d.current.pinned d.client.link) none.1
+    ∙ closed_none d.current.pinned d.client.link)
+  where
+    waits_none : (told waiting : List Note) → told ≡ [] → told ++ waiting ≡ [] → waiting ≡ []
+    waits_none told waiting is e = ap (λ (ns : List Note). ns ++ waiting) (sym is) ∙ e
+    mute : (b : Bool) → notes (only_if b (came a.entry a.peer ∷ []) ++ []) ≡ []
+    mute true = refl
+    mute false = refl
+    closed_none : (b : Bool) (link : ℕ) → closed_by b link None ≡ []
+    closed_none true link = refl
+    closed_none false link = refl
 
 -- a connection joins
 pub step_accept : {base now new : Seen} {g : List Plan} (a : Arrival) (d : Conn) (conns conns' : Slab Conn) (key : ℕ) → Came now a.link (came a.entry a.peer) new → Began a d → get conns' key ≡ Some d → Others conns conns' key → Runs base now g conns → Runs base new g conns'
@@ -115,6 +144,7 @@ step_accept {base} {now} {new} {g} a d conns conns' key arrival began gd others 
       counted = λ l some. absurd (some refl);
       unstopped = refl;
       shows = first_shows a arrival;
+      untold = began_untold began;
     }
 
 -- a client came and is turned away
@@ -283,12 +313,6 @@ same_links clocked no_more l = record { reads = refl; read_quiet = refl; write_q
 
 pub links_after : {a b : Lately} {no_more : Bool} → b ≡ record a { no_more = no_more } → SameLinks a b
 links_after {a} {b} {no_more} is l = subst (λ (t : Lately). SameAt l a t) (sym is) (same_links {a = a} a.clocked no_more l)
-
--- no key past the slots has a connection
-pub past_slots : {X : Type 0} (xs : List (Option X)) (k : ℕ) → length xs ≤ k → get_or xs k None ≡ None
-past_slots [] k le = refl
-past_slots (x ∷ xs) zero le = absurd (omega arith)
-past_slots (x ∷ xs) (suc k) le = past_slots xs k (omega arith)
 
 pub all_settled : {l : Lately} (conns : Slab Conn) (end : ℕ) → ((k : ℕ) → k < end → SettledUnder l conns k) → ((k : ℕ) → end ≤ k → get conns k ≡ None) → AllSettled l conns
 all_settled {l} conns end below gone k = elim (cases_lt k end) [

@@ -153,6 +153,7 @@ tracks_kept {now} {new} {ran} {f} {g} {mine} {other} {x} p grew apart t = record
   unstopped = t.unstopped;
   shows = subst (λ (o : Option (List Event)). IfSome o (Shows other)) (sym p.log)
       (told_step now.log ran (Shows other) (Shows other) (λ log s. shows_kept p t.stands.fresh apart log s) t.shows);
+  untold = t.untold;
 }
 
 pub end_weaker : (cause : EndCause) (history : List LinkEvent) (done : List Turn) (last : Option Turn) (rest left : List ℕ) (A B A' B' : Type 0) → (A → A') → (B → B') → EndHolds cause history done last rest left A B → EndHolds cause history done last rest left A' B'

@@ -2,3 +2,4 @@ pub mod Lists
 pub mod Frames
 pub mod Servings
 pub mod Comings
+pub mod Accountings

@@ -153,14 +153,15 @@ went_stops {S} {now} {new} {f} {g} {c} {d} steps w unstopped some =
     (none_in_neither (stops steps) (stops w.did) (subst (λ (h : List (Unit {0})). h ≢ []) (flat_map-append stops_by steps w.did) some))
 
 -- the connection itself is tracked on
-pub went_tracks : {now new : Seen} {f g : List Plan} {c d : Conn} {steps : List Step} (w : Moved ⊥ now new f g c d) → IsReady new g d → Tracks now f steps c → Tracks new g (steps ++ w.did) d
-went_tracks {now} {new} {f} {g} {c} {d} {steps} w ready t = record {
+pub went_tracks : {now new : Seen} {f g : List Plan} {c d : Conn} {steps : List Step} (w : Moved ⊥ now new f g c d) → IsReady new g d → d.notes.items ≡ [] → Tracks now f steps c → Tracks new g (steps ++ w.did) d
+went_tracks {now} {new} {f} {g} {c} {d} {steps} w ready untold t = record {
   stands = w.stands steps t.stands;
   ready = ready;
   held = went_held steps w t.held;
   counted = went_counted steps w t.counted;
   unstopped = none_is (stops (steps ++ w.did)) (went_stops steps w t.unstopped);
   shows = went_shows w t.stands t.shows;
+  untold = untold;
 }
 
 -- each end that is noted in these last events is of a connection that was served
@@ -254,11 +255,11 @@ unended_here {S} {base} {now} {new} {f} {g} {c} {d} {steps} all log w t unended 
 ])
 
 -- the connection goes on
-pub step_open : {base now new : Seen} {f g : List Plan} {c d : Conn} (conns conns' : Slab Conn) (key : ℕ) → get conns key ≡ Some c → Moved ⊥ now new f g c d → IsUnended d → IsReady new g d → get conns' key ≡ Some d → Others conns conns' key → Runs base now f conns → Runs base new g conns'
-step_open {base} {now} {new} {f} {g} {c} {d} conns conns' key gc w unended ready gd others r =
+pub step_open : {base now new : Seen} {f g : List Plan} {c d : Conn} (conns conns' : Slab Conn) (key : ℕ) → get conns key ≡ Some c → Moved ⊥ now new f g c d → IsUnended d → IsReady new g d → d.notes.items ≡ [] → get conns' key ≡ Some d → Others conns conns' key → Runs base now f conns → Runs base new g conns'
+step_open {base} {now} {new} {f} {g} {c} {d} conns conns' key gc w unended ready untold gd others r =
     let t = r.attends.tracks key c gc in
     step_at conns conns' key (r.steps key ++ w.did) r (went_passed w t.stands) w.grew (went_grows w t.stands) (w.stands (r.steps key) t.stands).fresh others
-    (λ x gx. let is : d ≡ x = cc in subst (λ (z : Conn). Tracks new g (r.steps key ++ w.did) z) is (went_tracks w ready t))
+    (λ x gx. let is : d ≡ x = cc in subst (λ (z : Conn). Tracks new g (r.steps key ++ w.did) z) is (went_tracks w ready untold t))
     (told_all base.log (λ before. Here base new g (put r.steps key (r.steps key ++ w.did)) (before ++ r.ran) w.ran) (λ before. unended_here (put r.steps key (r.steps key ++ w.did)) (before ++ r.ran) w t.stands unended))
 
 none_tracked : {new : Seen} {g : List Plan} {steps : List Step} (conns' : Slab Conn) (key : ℕ) → get conns' key ≡ None → (x : Conn) → get conns' key ≡ Some x → Tracks new g steps x
@@ -394,3 +395,25 @@ attends_none now g conns none = (λ k. [], record {
   apart = λ k j ne. apart_none;
   come = λ k l not. new_none;
 })
+
+-- the keys below one have no connection, and those past the end have none
+pub gone_next : (conns conns' : Slab Conn) (key : ℕ) → ((k : ℕ) → k < key → get conns k ≡ None) → get conns' key ≡ None → Others conns conns' key → (k : ℕ) → k < key + 1 → get conns' k ≡ None
+gone_next conns conns' key below gone others k lt = elim (cases_eq k key) [
+  | inl same ↦ ap (get conns') same ∙ gone
+  | inr ne ↦ others k ne ∙ below k (omega (arith, lt, ne))
+]
+
+pub gone_past : (conns conns' : Slab Conn) (key end : ℕ) → key < end → ((k : ℕ) → end ≤ k → get conns k ≡ None) → Others conns conns' key → (k : ℕ) → end ≤ k → get conns' k ≡ None
+gone_past conns conns' key end lt past others k le = others k (λ same. omega (arith, same, le, lt)) ∙ past k le
+
+pub gone_all : (conns : Slab Conn) (end : ℕ) → ((k : ℕ) → k < end → get conns k ≡ None) → ((k : ℕ) → end ≤ k → get conns k ≡ None) → (k : ℕ) → get conns k ≡ None
+gone_all conns end below past k = elim (cases_lt k end) [ | inl lt ↦ below k lt | inr le ↦ past k le ]
+
+-- no key past the slots has a connection
+pub past_slots : {X : Type 0} (xs : List (Option X)) (k : ℕ) → length xs ≤ k → get_or xs k None ≡ None
+past_slots [] k le = refl
+past_slots (x ∷ xs) zero le = absurd (omega arith)
+past_slots (x ∷ xs) (suc k) le = past_slots xs k (omega arith)
+
+pub none_in : (conns : Slab Conn) → conns.slots ≡ [] → (k : ℕ) → get conns k ≡ None
+none_in conns none k = ap (λ (slots : List (Option Conn)). get_or slots k None) none

@@ -32,6 +32,7 @@ pub record Tracks (now : Seen) (generations : List Plan) (steps : List Step) (c 
   pub counted : AreCounted now steps
   pub unstopped : stops steps ≡ []
   pub shows : IfSome now.log (Shows steps)
+  pub untold : c.notes.items ≡ []
 
 -- the steps at one key replaced
 abbrev pub put : (ℕ → List Step) → ℕ → List Step → ℕ → List Step

@@ -1,5 +1,8 @@
 //! A worker's run.
-ghost use Rattle.std.specs.Prelude.{◌≡◌, ◌≢◌, ◌++◌, ℕ, List, IfSome};
+ghost use Rattle.std.specs.Prelude.{◌≡◌, ◌≢◌, ◌++◌, ℕ, List, IfSome, None};
+ghost use Rattle.slab.specs.Slab.{get};
+ghost use Rattle.desk.specs.Desks.{Desk};
+ghost use Rattle.worker_loop.specs.Accounts.{Accounts};
 ghost use Rattle.link_world.specs.Log.{Event};
 ghost use Rattle.link_world.specs.Seen.{Seen, Rose};
 ghost use Rattle.conversation.specs.Plans.{Plan};
@@ -42,6 +45,13 @@ pub fn run_worker<R: Wait, W: World, S: Shared>(
     // Where the world tells its log, each connection whose end this run noted was served.
     ensures served { (ran : List Event) × ((W.seen world.new).log ≡ extended (W.seen world.old).log ran)
         × IfSome (W.seen world.old).log (λ before. EndsServed (W.seen world.old) (W.seen world.new) (S.desk shared.new).generations before ran) }
+    // No connection is open any more.
+    ensures ended { (k : ℕ) → get worker.new.conns k ≡ None }
+
+    // Each pin of the desk since the worker first used it is accounted for.
+    ensures accounts { (base : Seen) (from : Desk) → result ≢ WorkerEnd.Memory
+        → Accounts base (W.seen world.old) from (S.desk shared.old) worker.old.conns
+        → Accounts base (W.seen world.new) from (S.desk shared.new) worker.new.conns }
     ensures stopped { result ≡ WorkerEnd.Stopped → Rose (W.seen world.old).stops (W.seen world.new).stops }
     ensures unasked { result ≡ WorkerEnd.WorldFault → (W.seen world.new).stops ≡ (W.seen world.old).stops }
     ensures fault { result ≡ WorkerEnd.WorldFault → Rose (W.seen world.old).waits_failed (W.seen world.new).waits_failed }
@@ -68,6 +78,9 @@ fn finish<W: World>(alloc: Global, worker: &mut Worker, world: &mut W, end: Work
     ensures runs { (base : Seen) (g : List Plan) → Stopping base (W.seen world.old) → Runs base (W.seen world.old) g worker.old.conns
         → Runs base (W.seen world.new) g worker.new.conns }
     ensures unasked { Unasked (W.seen world.old) (W.seen world.new) }
+    ensures ended { (k : ℕ) → get worker.new.conns k ≡ None }
+    ensures accounts { (base : Seen) (from to : Desk) → result ≢ WorkerEnd.Memory → Accounts base (W.seen world.old) from to worker.old.conns
+        → Accounts base (W.seen world.new) from to worker.new.conns }
 {
     if worker.stop_all(alloc, world) { end } else { WorkerEnd::Memory }
 }

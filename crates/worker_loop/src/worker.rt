@@ -3,7 +3,9 @@ ghost use Rattle.std.specs.Prelude.{◌≡◌, ◌≢◌, ◌≤◌, ℕ, List, 
 ghost use Rattle.link_world.specs.Seen.{Seen, CloseDid};
 ghost use Rattle.link_world.specs.Lately.{OnlyAt};
 ghost use Rattle.conversation.specs.Plans.{Plan};
-ghost use Rattle.worker_loop.specs.Runs.{Attends, Runs, Began};
+ghost use Rattle.worker_loop.specs.Runs.{Attends, Attended, Runs, Began};
+ghost use Rattle.desk.specs.Desks.{Desk};
+ghost use Rattle.worker_loop.specs.Accounts.{Accounts};
 ghost use Rattle.worker_loop.specs.Settled.{SettledUnder, AllSettled, TurnDone, SameTurn};
 
 use conn_machine::Conn;
@@ -32,6 +34,7 @@ impl Worker {
         requires { links ≤ 4096 }
         ensures attends { (now : Seen) (generations : List Plan) → IfOk result (λ worker. Attends now generations worker.conns) }
         ensures links { IfOk result (λ worker. worker.links ≡ links) }
+        ensures accounts { (now : Seen) (desk : Desk) → IfOk result (λ worker. Accounts now now desk desk worker.conns) }
     {
         let mut conns = Slab::new(alloc);
         conns.reserve(links as usize)?;
@@ -57,6 +60,10 @@ impl Worker {
             → Runs base (W.seen world.new) (S.desk shared.new).generations self.new.conns }
         ensures stops { (W.seen world.new).stops ≡ (W.seen world.old).stops }
         ensures links { self.new.links ≡ self.old.links }
+
+        // Each pin of the desk since the worker first used it is accounted for.
+        ensures accounts { (base : Seen) (from : Desk) → OnOk result (Accounts base (W.seen world.old) from (S.desk shared.old) self.old.conns
+            → Accounts base (W.seen world.new) from (S.desk shared.new) self.new.conns) }
         ensures done { OnOk result (TurnDone (W.lately world.new) self.new.conns self.new.links) }
     {
         let _ = world.now();
@@ -86,6 +93,8 @@ impl Worker {
         ensures stops { (W.seen world.new).stops ≡ (W.seen world.old).stops }
         ensures links { self.new.links ≡ self.old.links }
         ensures turn { SameTurn (W.lately world.old) (W.lately world.new) }
+        ensures accounts { (base : Seen) (from : Desk) → OnOk result (Accounts base (W.seen world.old) from (S.desk shared.old) self.old.conns
+            → Accounts base (W.seen world.new) from (S.desk shared.new) self.new.conns) }
         ensures settled { OnOk result (AllSettled (W.lately world.new) self.new.conns) }
     {
         let end = self.conns.capacity();
@@ -110,6 +119,8 @@ impl Worker {
         ensures links { self.new.links ≡ self.old.links }
         ensures clocked { (W.lately world.new).clocked ≡ (W.lately world.old).clocked }
         ensures none { IfOk result (λ came. came ≡ false → (W.lately world.new).no_more ≡ true) }
+        ensures accounts { (base : Seen) (from : Desk) → OnOk result (Accounts base (W.seen world.old) from (S.desk shared.old) self.old.conns
+            → Accounts base (W.seen world.new) from (S.desk shared.new) self.new.conns) }
         ensures settled { OnOk result (AllSettled (W.lately world.old) self.old.conns → AllSettled (W.lately world.new) self.new.conns) }
     {
         let Some(key) = self.accept(alloc, world)? else {
@@ -121,8 +132,11 @@ impl Worker {
 
     // Takes a client that comes, once there is room for it. Answers its key.
     fn accept<W: World>(&mut self, alloc: Global, world: &mut W) -> Result<Option<usize>, Memory>
+        requires { Attended (W.seen world.old) self.old.conns }
         ensures runs { (base : Seen) (g : List Plan) → Runs base (W.seen world.old) g self.old.conns
             → Runs base (W.seen world.new) g self.new.conns }
+        ensures accounts { (base : Seen) (from f : Desk) → OnOk result (Accounts base (W.seen world.old) from f self.old.conns
+            → Accounts base (W.seen world.new) from f self.new.conns) }
         ensures stops { (W.seen world.new).stops ≡ (W.seen world.old).stops }
         ensures links { self.new.links ≡ self.old.links }
         ensures clocked { (W.lately world.new).clocked ≡ (W.lately world.old).clocked }

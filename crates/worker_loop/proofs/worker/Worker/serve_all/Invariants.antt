@@ -1,6 +1,8 @@
 use Rattle.std.proofs.Common.{◌≡◌, ◌<◌, ◌≤◌, ℕ, None}
 use Rattle.slab.specs.Slab.{get}
 use Rattle.link_world.specs.Seen.{Seen}
+use Rattle.desk.specs.Desks.{Desk}
+use Rattle.worker_loop.specs.Accounts.{Accounts}
 use Rattle.worker_loop.specs.Runs.{Runs}
 use Rattle.worker_loop.specs.Settled.{SameTurn, SettledUnder}
 use Rattle.worker_loop.proofs.worker.Worker.serve_all.Given as goal
@@ -13,3 +15,4 @@ invariant-loop-key g l =
     × ((k : ℕ) → k < l.key → SettledUnder (g.W.World.lately l.world) l.self.conns k)
     × ((k : ℕ) → l.end ≤ k → get l.self.conns k ≡ None)
     × ((g.W.World.seen l.world).stops ≡ (g.W.World.seen l.fn.world).stops)
+    × ((base : Seen) (from : Desk) → Accounts base (g.W.World.seen l.fn.world) from (g.S.Shared.desk l.fn.shared) l.fn.self.conns → Accounts base (g.W.World.seen l.world) from (g.S.Shared.desk l.shared) l.self.conns)

@@ -1,6 +1,7 @@
 use Rattle.std.proofs.Common.{rules, ◌≡◌, ◌≢◌, ℕ, Some, sym, ◌∙◌, ap, refl, ⊎_elim}
 use Rattle.slab.specs.Slab.{get}
 use Rattle.worker_loop.proofs.Servings.{step_open, step_over, step_lost, lost_stops, unfinished, moved, strayed}
+use Rattle.worker_loop.proofs.Accountings.{accounts_open, accounts_over}
 use Rattle.worker_loop.proofs.Comings.{went_only, went_turn, lost_turn, settled_key, settled_gone, settled_here, settled_vacant}
 use Rattle.worker_loop.proofs.worker.Worker.serve_key.Goals as goal
 
@@ -25,6 +26,7 @@ returns-then-not-is_finished-clause-runs g c = λ base.
     step_open _ _ c.args.key (sym c.in-Some.ensures.value) (moved c.in_ok-serve.ensures.went)
     (c.if-not-is_finished.ensures.unended (search rules))
     (unfinished c.serve.new.conn c.if-not-is_finished.ensures.finished (search rules) c.in_ok-serve.ensures.ready)
+    c.in_ok-serve.ensures.told
     (ap (get c.insert_reserved.new.self) (sym at) ∙ c.insert_reserved.ensures.updates.changed)
     (λ k ne. c.insert_reserved.ensures.updates.others k (λ e. ne (e ∙ at)) ∙ c.in-Some.ensures.updates.others k ne)
 
@@ -66,3 +68,14 @@ returns-in_default-clause-turn g c = record { clocked = refl; no_more = refl }
 
 pub returns-in_default-clause-settled : goal.returns-in_default-clause-settled
 returns-in_default-clause-settled g c = settled_vacant c.args.self.now.conns c.try_remove.new.self c.args.key c.try_remove.ensures.updates.changed c.try_remove.ensures.updates.others
+
+pub returns-then-not-is_finished-clause-accounts : goal.returns-then-not-is_finished-clause-accounts
+returns-then-not-is_finished-clause-accounts g c = λ base from.
+    let at : c.insert_reserved.result ≡ c.args.key = c.insert_reserved.ensures.key ∙ c.in-Some.ensures.key_is_next in
+    accounts_open c.args.self.now.conns c.insert_reserved.new.self c.args.key c.requires.1 (sym c.in-Some.ensures.value) c.in_ok-serve.ensures.went c.in_ok-serve.ensures.told
+    (ap (get c.insert_reserved.new.self) (sym at) ∙ c.insert_reserved.ensures.updates.changed)
+    (λ k ne. c.insert_reserved.ensures.updates.others k (λ e. ne (e ∙ at)) ∙ c.in-Some.ensures.updates.others k ne)
+
+pub returns-else-not-is_finished-clause-accounts : goal.returns-else-not-is_finished-clause-accounts
+returns-else-not-is_finished-clause-accounts g c = λ base from.
+    accounts_over c.args.self.now.conns c.try_remove.new.self c.args.key c.requires.1 (sym c.in-Some.ensures.value) c.in_ok-serve.ensures.went (c.if-not-is_finished.ensures.finished.0 (search rules)) c.in-Some.ensures.updates.changed c.in-Some.ensures.updates.others

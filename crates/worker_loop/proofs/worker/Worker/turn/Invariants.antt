@@ -1,5 +1,7 @@
 use Rattle.std.proofs.Common.{◌≡◌, true}
 use Rattle.link_world.specs.Seen.{Seen}
+use Rattle.desk.specs.Desks.{Desk}
+use Rattle.worker_loop.specs.Accounts.{Accounts}
 use Rattle.worker_loop.specs.Runs.{Runs}
 use Rattle.worker_loop.specs.Settled.{AllSettled}
 use Rattle.worker_loop.proofs.worker.Worker.turn.Given as goal
@@ -12,3 +14,4 @@ invariant-loop g l =
     × AllSettled (g.W.World.lately l.world) l.self.conns
     × ((g.W.World.seen l.world).stops ≡ (g.W.World.seen l.fn.world).stops)
     × (l.self.links ≡ l.fn.self.links)
+    × ((base : Seen) (from : Desk) → Accounts base (g.W.World.seen l.fn.world) from (g.S.Shared.desk l.fn.shared) l.fn.self.conns → Accounts base (g.W.World.seen l.world) from (g.S.Shared.desk l.shared) l.self.conns)

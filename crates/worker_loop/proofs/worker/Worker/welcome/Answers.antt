@@ -7,3 +7,9 @@ serve_key-requires g c = runs_attends (c.accept.ensures.runs _ _ (runs_none _ _ 
 
 pub returns-clause-settled : goal.returns-clause-settled
 returns-clause-settled g c = λ all k. c.in_ok-serve_key.ensures.settled k (λ ne. let did = rw c.in-Some.is at c.in_ok-key.ensures.settled in did all k ne)
+
+pub returns-in_default-clause-accounts : goal.returns-in_default-clause-accounts
+returns-in_default-clause-accounts g c = λ base from. c.in_ok-key.ensures.accounts base from (g.S.Shared.desk c.args.shared.now)
+
+pub returns-clause-accounts : goal.returns-clause-accounts
+returns-clause-accounts g c = λ base from a. c.in_ok-serve_key.ensures.accounts base from (c.in_ok-key.ensures.accounts base from (g.S.Shared.desk c.args.shared.now) a)
