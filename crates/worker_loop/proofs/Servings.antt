@@ -417,3 +417,22 @@ past_slots (x ∷ xs) (suc k) le = past_slots xs k (omega arith)
 
 pub none_in : (conns : Slab Conn) → conns.slots ≡ [] → (k : ℕ) → get conns k ≡ None
 none_in conns none k = ap (λ (slots : List (Option Conn)). get_or slots k None) none
+
+-- generations were published
+pub attends_grew : (now : Seen) (f g : List Plan) (conns : Slab Conn) → Grew f g → Attends now f conns → Attends now g conns
+attends_grew now f g conns grew (steps, a) = (steps, record {
+  tracks = λ k c gc. tracks_kept still grew apart_none (a.tracks k c gc);
+  apart = a.apart;
+  come = a.come;
+})
+  where
+    still : Passed now now [] []
+    still = record {
+      log = extended_none now.log;
+      quiet = λ l is q. refl;
+      still = λ l is q. refl;
+      come = λ l is. is;
+      faults = λ l. omega arith;
+      stops = omega arith;
+      waits = omega arith;
+    }

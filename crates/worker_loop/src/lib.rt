@@ -2,10 +2,12 @@
 #![tactic(auto)]
 
 mod keys;
+mod laws;
 mod rounds;
-
-
+#[cfg(test)]
+mod tests;
 mod worker;
 
+pub use laws::{attends_after_publications, attends_after_waits};
 pub use rounds::{WorkerEnd, run_worker};
 pub use worker::{MOST_LINKS, Worker};
