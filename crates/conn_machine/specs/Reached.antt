@@ -103,6 +103,10 @@ WantsNode c node = (a : Aim) → c.current.aim ≡ Some a → node ≡ a.node
 abbrev pub WaitsOver : Stage → Conn → Type 0
 WaitsOver at c = Waits at c ⊎ IsEnding c.phase
 
+-- an exchange that goes on is on the same link
+abbrev pub KeepsServer : Conn → Conn → Type 0
+KeepsServer old new = Waits stage.Exchange new → Waits stage.Exchange old × (new.current.link ≡ old.current.link)
+
 -- what of its message the link to the server hasn't taken
 abbrev pub pending_to : Option BackView → List ℕ
 pending_to None = []
@@ -145,6 +149,16 @@ IsTold (Told cause) = Unit {0}
 
 abbrev pub IsFinished : Conn → Type 0
 IsFinished c = (c.notes.items ≡ []) × IsTold c.phase
+
+abbrev pub IsNotOver : Phase → Type 0
+IsNotOver Open = Unit {0}
+IsNotOver Broken = Unit {0}
+IsNotOver (Over cause) = ⊥
+IsNotOver (Told cause) = Unit {0}
+
+-- it has nothing to note
+abbrev pub IsDrained : Conn → Type 0
+IsDrained c = (c.notes.items ≡ []) × IsNotOver c.phase
 
 -- the note is no end
 abbrev pub IsRequestBody : NoteBody → Type 0
