@@ -541,3 +541,27 @@ told_of Open end over = end
 told_of Broken end over = end
 told_of (Over cause) end over = over
 told_of (Told cause) end over = tt
+
+-- a client that came is ready, and stands at its coming
+pub ready_new : {s t : Seen} {generations : List Plan} {e : LinkEvent} (link : ℕ) (c : Conn) → Came s link e t → c.client.link ≡ link → Waits stage.Head c → c.current.number ≡ 0 → IsPrompt c → IsReady t generations c
+ready_new {s} {t} {generations} {e} link c came is waits number prompt = record {
+  is_open = waits.phase;
+  prompt = prompt;
+  linked = record {
+    come = subst (λ (i : ℕ). t.come i ≡ true) (sym is) came.come;
+    client = λ opened. subst (λ (i : ℕ). t.is_open i ≡ true) (sym is) came.is_open;
+    server = λ ex. absurd (idle ex);
+    apart = λ ex. absurd (idle ex);
+  };
+  below = λ m all. subst (λ (n : ℕ). n ≤ m) (sym number) (omega arith);
+}
+  where
+    idle : IsExchanging c → ⊥
+    idle ex = let other : stage.Head ≡ stage.Exchange = sym waits.stage ∙ ex.stage in cc
+
+pub tracked_new : {s t : Seen} {e : LinkEvent} (link : ℕ) (f : LinkEvent) (c : Conn) → Came s link e t → Reached (happened link f ∷ []) c → IsTracked t c
+tracked_new {s} {t} {e} link f c came reached = (happened link f ∷ [], record {
+  reached = reached;
+  fresh = λ l none. let a : Alone link link (on link f ∷ []) (happened link f ∷ []) = alone_event link link f (λ ne. absurd (ne refl)) in
+      (a.quiet l (λ same. not_false (subst (λ (i : ℕ). t.come i ≡ true) (sym same) came.come) none)).1;
+})

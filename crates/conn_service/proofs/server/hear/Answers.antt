@@ -21,14 +21,14 @@ returns-in_err-reserve-clause-went g c = λ desk. went_none c.requires.linked (k
 pub returns-in_err-reserve-clause-server : goal.returns-in_err-reserve-clause-server
 returns-in_err-reserve-clause-server g c = keeps_server c.reserve.ensures.phase c.reserve.ensures.stage c.reserve.ensures.current
 
-pub returns-then-reads-ge64-clause-went : goal.returns-then-reads-ge64-clause-went
-returns-then-reads-ge64-clause-went g c = λ desk. went_same c.requires.linked
+pub returns-then-reads-ge-READS-clause-went : goal.returns-then-reads-ge-READS-clause-went
+returns-then-reads-ge-READS-clause-went g c = λ desk. went_same c.requires.linked
 
-pub returns-then-reads-ge64-clause-server : goal.returns-then-reads-ge64-clause-server
-returns-then-reads-ge64-clause-server g c = λ ex. (ex, refl)
+pub returns-then-reads-ge-READS-clause-server : goal.returns-then-reads-ge-READS-clause-server
+returns-then-reads-ge-READS-clause-server g c = λ ex. (ex, refl)
 
-pub returns-then-reads-ge64-clause-still : goal.returns-then-reads-ge64-clause-still
-returns-then-reads-ge64-clause-still g c = λ e. (stays_work _ (work_same _), λ ex. inr (omega (arith, c.requires.counted.server ex)))
+pub returns-then-reads-ge-READS-clause-still : goal.returns-then-reads-ge-READS-clause-still
+returns-then-reads-ge-READS-clause-still g c = λ e. (stays_work _ (work_same _), λ ex. inr (omega (arith, c.requires.counted.server ex)))
 
 pub returns-in_err-reserve-clause-counted : goal.returns-in_err-reserve-clause-counted
 returns-in_err-reserve-clause-counted g c = counted_same c.reserve.ensures.client (keeps_server c.reserve.ensures.phase c.reserve.ensures.stage c.reserve.ensures.current) c.requires.counted
