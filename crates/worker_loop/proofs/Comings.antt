@@ -28,7 +28,7 @@ use Rattle.conn_service.specs.Calm.{Calm}
 use Rattle.conn_service.proofs.Calms.{calm_kept}
 use Rattle.worker_loop.specs.Owned.{Shows, HaveCome, Tracks}
 use Rattle.worker_loop.specs.Runs.{AttendsBy, Runs, Stopping, Began, IsOver, Unasked}
-use Rattle.worker_loop.specs.Settled.{SettledUnder, AllSettled, SameTurn}
+use Rattle.worker_loop.specs.Settled.{SettledUnder, AllSettled, SameTurn, TurnDone, EndsOnly, StoppedAfter}
 use Rattle.worker_loop.proofs.Lists.{contains_none, extended_twice, extended_none, told_step, told_all, history_quiet, history-append, new_none, grew_none}
 use Rattle.worker_loop.proofs.Frames.{history_fresh, Passed, Grows, client_told, back_told, has_come, no_more_told, rose_after}
 use Rattle.worker_loop.proofs.Servings.{unowned, Others, Here, step_at, step_quiet, step_same}
@@ -323,3 +323,15 @@ fault_kept a b c d le rose un = let x = rose.0 in let y = rose.1 in let z = un.1
 
 pub wait_stops : (now new : Seen) → WaitDid now (Ok tt) new → new.stops ≡ now.stops
 wait_stops now new is = ap (λ (s : Seen). s.stops) is
+
+-- a stop was asked for after a turn, and then connections were ended
+pub stopped_after : {l : Lately} (a b d : Seen) (conns : Slab Conn) (links : ℕ) → TurnDone l conns links → StopDid a true b → Unasked b d → EndsOnly b d conns → StoppedAfter a l d conns links
+stopped_after {l} a b d conns links done did un ends = record {
+  done = done;
+  asked = rose_kept a a b d a.stops refl refl (stop_rose a b did) un;
+  ended = record {
+    ran = stop ∷ ends.ran;
+    log = ends.log ∙ ap (λ (o : Option (List Event)). extended o ends.ran) (ap (λ (s : Seen). s.log) did.2) ∙ extended_twice a.log (stop ∷ []) ends.ran;
+    notes_on = ends.notes_on;
+  };
+}
