@@ -21,15 +21,14 @@ use Rattle.conversation.specs.Served.{end_note, of_all, pin_of, notes_of}
 use Rattle.conversation.specs.Turns.{Turn}
 use Rattle.conn_machine.specs.Reached.{ending_note, closed_by}
 use Rattle.conn_machine.specs.declared.conn.Conn.{Conn}
-use Rattle.conn_machine.specs.declared.parts.Stage.{Stage}
-use Rattle.conn_machine.specs.declared.parts.Stage.TheVariants.{Head, Pin, Route, Look, Down, Walk, Spent, Dial, Dialled, Exchange, Reply}
 use Rattle.conn_service.specs.Moments.{Stands, IsElse, IsExchanging, IsHeld, moment}
 use Rattle.conn_service.specs.Pins.{IsBelow}
 use Rattle.conn_service.specs.Went.{Went, Lost, extended}
-use Rattle.conn_service.specs.Calm.{Calm, Rests, RestsAt, IsRead}
+use Rattle.conn_service.specs.Calm.{Calm}
+use Rattle.conn_service.proofs.Calms.{calm_kept}
 use Rattle.worker_loop.specs.Owned.{Shows, HaveCome, Tracks}
 use Rattle.worker_loop.specs.Runs.{AttendsBy, Runs, Stopping, Began, IsOver, Unasked}
-use Rattle.worker_loop.specs.Settled.{SettledUnder, AllSettled, SameTurn}
+use Rattle.worker_loop.specs.Settled.{SettledUnder, AllSettled, SameTurn, TurnDone, EndsOnly, StoppedAfter}
 use Rattle.worker_loop.proofs.Lists.{contains_none, extended_twice, extended_none, told_step, told_all, history_quiet, history-append, new_none, grew_none}
 use Rattle.worker_loop.proofs.Frames.{history_fresh, Passed, Grows, client_told, back_told, has_come, no_more_told, rose_after}
 use Rattle.worker_loop.proofs.Servings.{unowned, Others, Here, step_at, step_quiet, step_same}
@@ -132,6 +131,7 @@ step_accept {base} {now} {new} {g} a d conns conns' key arrival began gd others 
       stands = record { reached = began.reached; fresh = have };
       ready = record {
         is_open = began.waits.phase;
+        prompt = began.prompt;
         linked = record {
           come = ap new.come began.link ∙ arrival.come;
           client = λ is. ap new.is_open began.link ∙ arrival.is_open;
@@ -244,33 +244,6 @@ step_failed {base} {now} {new} {g} {conns} e (n, more, is) r =
       inr (rose_after r.waits rose),
     )
 
-read_kept : {a b : Lately} {l : ℕ} → SameAt l a b → IsRead a l → IsRead b l
-read_kept same (inl q) = inl (same.read_quiet ∙ q)
-read_kept {a} {b} {l} same (inr many) = let e = same.reads in inr (omega (arith, e, many))
-
-rests_at : {a b : Lately} (c : Conn) (at : Stage) → (at ≡ Exchange → SameAt c.current.link a b) → RestsAt at a c → RestsAt at b c
-rests_at c Head server h = tt
-rests_at c Pin server h = h
-rests_at c Route server h = h
-rests_at c Look server h = h
-rests_at c Down server h = h
-rests_at c Walk server h = h
-rests_at c Spent server h = h
-rests_at c Dial server h = h
-rests_at c Dialled server h = h
-rests_at c Exchange server h = record { read = read_kept (server refl) h.read; written = λ some. (server refl).write_quiet ∙ h.written some }
-rests_at c Reply server h = h
-
--- what is settled stays so where its links are as they were
-pub calm_kept : {a b : Lately} {c : Conn} → SameAt c.client.link a b → (IsExchanging c → SameAt c.current.link a b) → Calm a c → Calm b c
-calm_kept {a} {b} {c} client server calm is =
-    let h = calm is in
-    record {
-      read = elim h.read [ | inl over ↦ inl over | inr some ↦ elim some [ | inl full ↦ inr (inl full) | inr read ↦ inr (inr (read_kept client read)) ] ];
-      written = λ some. client.write_quiet ∙ h.written some;
-      stage = rests_at c c.stage (λ at. server (record { phase = is; stage = at })) h.stage;
-    }
-
 -- nothing changed of the links that the connection's steps don't tell of
 abbrev pub Only : Seen → Conn → Lately → Lately → Type 0
 Only now c a b = (steps : List Step) (l : ℕ) → Stands now steps c → IsElse now steps l → SameAt l a b
@@ -281,10 +254,9 @@ settled_others {now} {f} {steps} {a} {b} {c} conns conns' key k at gc only other
     let gx0 : get conns k ≡ Some x = sym (others k ne) ∙ gx in
     let t = at.tracks k x gx0 in
     let mine = at.tracks key c gc in
-    calm_kept
+    calm_kept (was x gx0)
     (same t.stands mine.stands x.client.link (client_told t.stands.reached))
     (λ at. same t.stands mine.stands x.current.link (back_told t.stands.reached at.phase at.stage))
-    (was x gx0)
   where
     same : {x : Conn} → Stands now (steps k) x → Stands now (steps key) c → (l : ℕ) → (IsNew l (steps k) → ⊥) → SameAt l a b
     same other mine l told = only (steps key) l mine (record { come = has_come now l other.fresh told; quiet = no_more_told l (at.apart k key ne) told })
@@ -306,7 +278,7 @@ abbrev pub SameLinks : Lately → Lately → Type 0
 SameLinks a b = (l : ℕ) → SameAt l a b
 
 pub settled_same : {a b : Lately} (conns conns' : Slab Conn) (k : ℕ) → SameLinks a b → get conns' k ≡ get conns k → SettledUnder a conns k → SettledUnder b conns' k
-settled_same conns conns' k links same was x gx = calm_kept (links x.client.link) (λ ex. links x.current.link) (was x (sym same ∙ gx))
+settled_same conns conns' k links same was x gx = calm_kept (was x (sym same ∙ gx)) (links x.client.link) (λ at. links x.current.link)
 
 pub same_links : {a : Lately} (clocked no_more : Bool) → SameLinks a (record a { clocked = clocked; no_more = no_more })
 same_links clocked no_more l = record { reads = refl; read_quiet = refl; write_quiet = refl; read_was_quiet = refl; write_was_quiet = refl }
@@ -351,3 +323,15 @@ fault_kept a b c d le rose un = let x = rose.0 in let y = rose.1 in let z = un.1
 
 pub wait_stops : (now new : Seen) → WaitDid now (Ok tt) new → new.stops ≡ now.stops
 wait_stops now new is = ap (λ (s : Seen). s.stops) is
+
+-- a stop was asked for after a turn, and then connections were ended
+pub stopped_after : {l : Lately} (a b d : Seen) (conns : Slab Conn) (links : ℕ) → TurnDone l conns links → StopDid a true b → Unasked b d → EndsOnly b d conns → StoppedAfter a l d conns links
+stopped_after {l} a b d conns links done did un ends = record {
+  done = done;
+  asked = rose_kept a a b d a.stops refl refl (stop_rose a b did) un;
+  ended = record {
+    ran = stop ∷ ends.ran;
+    log = ends.log ∙ ap (λ (o : Option (List Event)). extended o ends.ran) (ap (λ (s : Seen). s.log) did.2) ∙ extended_twice a.log (stop ∷ []) ends.ran;
+    notes_on = ends.notes_on;
+  };
+}

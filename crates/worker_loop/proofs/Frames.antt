@@ -137,6 +137,7 @@ tracks_kept {now} {new} {ran} {f} {g} {mine} {other} {x} p grew apart t = record
   stands = record { reached = t.stands.reached; fresh = have_come p t.stands.fresh };
   ready = record {
     is_open = t.ready.is_open;
+    prompt = t.ready.prompt;
     linked = record {
       come = p.come x.client.link t.ready.linked.come;
       client = λ is. still_open x.client.link p t.stands.fresh apart (client_told t.stands.reached) (t.ready.linked.client is);

@@ -23,7 +23,7 @@ use Rattle.conn_service.specs.Moments.{moment, IsExchanging, Stands, IsElse, IsR
 use Rattle.conn_service.specs.Went.{Went, Lost, extended}
 use Rattle.worker_loop.specs.Owned.{AreApart, Shows, AreCounted, HaveCome, Tracks, put}
 use Rattle.worker_loop.specs.Runs.{AttendsBy, Attends, Runs, Stopping, IsServed, IsOver, EndsOver, EndsServed, Unasked}
-use Rattle.worker_loop.specs.Settled.{SettledUnder, AllSettled}
+use Rattle.worker_loop.specs.Settled.{SettledUnder, AllSettled, EndsOnly}
 use Rattle.worker_loop.proofs.Lists.{true_or_false, all_both, none_in_neither, none_is, contains_none, extended_twice, extended_none, told_step, told_both, told_back, told_then, told_all, told_each, history-append, steps-append, new_none, new_both, grew_all, grew_none}
 use Rattle.worker_loop.proofs.Frames.{history_fresh, Passed, Grows, apart_sym, apart_none, put_same, put_other, have_come, has_come, no_more_told, client_told, back_told, tracks_kept, served_weaker, stopping_later, apart_next, over_kept, over_quiet}
 
@@ -436,3 +436,35 @@ attends_grew now f g conns grew (steps, a) = (steps, record {
       stops = omega arith;
       waits = omega arith;
     }
+
+-- one connection's notes are on its client's link
+pub ends_went : {S : Type 0} {now new : Seen} {f g : List Plan} {c d : Conn} (conns : Slab Conn) (key : ℕ) → get conns key ≡ Some c → Moved S now new f g c d → EndsOnly now new conns
+ends_went conns key gc w = record {
+  ran = w.ran;
+  log = w.log;
+  notes_on = λ l nobody. ap notes (sym (w.shows l)) ∙ w.noted l (λ same. nobody key _ gc (sym same));
+}
+
+pub ends_lost : {S : Type 0} {now new : Seen} {f g : List Plan} {c : Conn} (conns : Slab Conn) (key : ℕ) → get conns key ≡ Some c → Strayed S now new f g c → EndsOnly now new conns
+ends_lost conns key gc (d, w, un) = ends_went conns key gc w
+
+pub ends_none : (now : Seen) (conns : Slab Conn) → EndsOnly now now conns
+ends_none now conns = record { ran = []; log = extended_none now.log; notes_on = λ l nobody. refl }
+
+-- and those of other open ones after them
+pub ends_then : (a b d : Seen) (conns later : Slab Conn) → ((k : ℕ) (x : Conn) → get later k ≡ Some x → get conns k ≡ Some x) → EndsOnly a b conns → EndsOnly b d later → EndsOnly a d conns
+ends_then a b d conns later within p q = record {
+  ran = p.ran ++ q.ran;
+  log = q.log ∙ ap (λ (o : Option (List Event)). extended o q.ran) p.log ∙ extended_twice a.log p.ran q.ran;
+  notes_on = λ l nobody. notes-append l p.ran q.ran ∙ ap (λ (ns : List Note). ns ++ notes (history_of l q.ran)) (p.notes_on l nobody) ∙ q.notes_on l (λ k x gx. nobody k x (within k x gx));
+}
+
+-- the keys from one on have what they had, and those below it nothing
+pub within_kept : (conns later : Slab Conn) (key : ℕ) → ((k : ℕ) → k < key → get later k ≡ None) → ((k : ℕ) → key ≤ k → get later k ≡ get conns k) → (k : ℕ) (x : Conn) → get later k ≡ Some x → get conns k ≡ Some x
+within_kept conns later key below above k x gx = elim (cases_lt k key) [
+  | inl lt ↦ absurd (let e = below k lt in let f : ⊥ = cc in f)
+  | inr le ↦ sym (above k le) ∙ gx
+]
+
+pub above_next : (conns later later' : Slab Conn) (key : ℕ) → ((k : ℕ) → key ≤ k → get later k ≡ get conns k) → Others later later' key → (k : ℕ) → key + 1 ≤ k → get later' k ≡ get conns k
+above_next conns later later' key above others k le = others k (λ same. omega (arith, same, le)) ∙ above k (omega (arith, le))

@@ -10,6 +10,7 @@ use Rattle.link_world.specs.Seen.{Seen, Rose}
 use Rattle.conversation.specs.Plans.{Plan}
 use Rattle.conversation.specs.Steps.{Step, happened, history}
 use Rattle.conversation.specs.Served.{Served, end_note}
+use Rattle.conn_machine.specs.Prompt.{IsPrompt}
 use Rattle.conn_machine.specs.Reached.{Reached, Waits}
 use Rattle.conn_machine.specs.declared.conn.Conn.{Conn}
 use Rattle.conn_machine.specs.declared.parts.Stage.TheVariants.{Head}
@@ -83,5 +84,6 @@ Attended now conns = (generations : List Plan) × Attends now generations conns
 pub record Began (client : Arrival) (c : Conn) : Type 0 where
   pub link : c.client.link ≡ client.link
   pub waits : Waits Head c
+  pub prompt : IsPrompt c
   pub number : c.current.number ≡ 0
   pub reached : Reached (happened client.link (came client.entry client.peer) ∷ []) c

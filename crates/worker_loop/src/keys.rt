@@ -1,12 +1,12 @@
 // A worker's connections, by their keys in its slab.
-ghost use Rattle.std.specs.Prelude.{◌≡◌, ◌≢◌, ℕ, List, OnOk, IsOk, None, true};
+ghost use Rattle.std.specs.Prelude.{◌≡◌, ◌≢◌, ◌≤◌, ℕ, List, OnOk, IsOk, None, true};
 ghost use Rattle.link_world.specs.Seen.{Seen};
 ghost use Rattle.conversation.specs.Plans.{Plan};
-ghost use Rattle.slab.specs.Slab.{get};
+ghost use Rattle.slab.specs.Slab.{get, slab_len};
 ghost use Rattle.worker_loop.specs.Runs.{Attends, Attended, Runs, Stopping, IsStopping, Unasked};
 ghost use Rattle.desk.specs.Desks.{Desk};
 ghost use Rattle.worker_loop.specs.Accounts.{Accounts};
-ghost use Rattle.worker_loop.specs.Settled.{SettledUnder, SameTurn};
+ghost use Rattle.worker_loop.specs.Settled.{SettledUnder, SameTurn, EndsOnly};
 
 use crate::worker::Worker;
 use conn_service::{quit, serve, stop};
@@ -32,6 +32,7 @@ impl Worker {
             → Runs base (W.seen world.new) (S.desk shared.new).generations self.new.conns }
         ensures stops { (W.seen world.new).stops ≡ (W.seen world.old).stops }
         ensures links { self.new.links ≡ self.old.links }
+        ensures fewer { slab_len self.new.conns ≤ slab_len self.old.conns }
         ensures others { (k : ℕ) → k ≢ key → get self.new.conns k ≡ get self.old.conns k }
         ensures turn { SameTurn (W.lately world.old) (W.lately world.new) }
         ensures accounts { (base : Seen) (from : Desk) → OnOk result (Accounts base (W.seen world.old) from (S.desk shared.old) self.old.conns
@@ -55,6 +56,7 @@ impl Worker {
         ensures runs { (base : Seen) (g : List Plan) → Stopping base (W.seen world.old) → Runs base (W.seen world.old) g self.old.conns
             → Runs base (W.seen world.new) g self.new.conns × Stopping base (W.seen world.new) }
         ensures unasked { Unasked (W.seen world.old) (W.seen world.new) }
+        ensures ends { EndsOnly (W.seen world.old) (W.seen world.new) self.old.conns }
         ensures gone { get self.new.conns key ≡ None }
         ensures others { (k : ℕ) → k ≢ key → get self.new.conns k ≡ get self.old.conns k }
         ensures accounts { (base : Seen) (from to : Desk) → OnOk result (Accounts base (W.seen world.old) from to self.old.conns
@@ -75,6 +77,7 @@ impl Worker {
         ensures runs { (base : Seen) (g : List Plan) → Stopping base (W.seen world.old) → Runs base (W.seen world.old) g self.old.conns
             → Runs base (W.seen world.new) g self.new.conns }
         ensures unasked { Unasked (W.seen world.old) (W.seen world.new) }
+        ensures ends { EndsOnly (W.seen world.old) (W.seen world.new) self.old.conns }
         ensures ended { (k : ℕ) → get self.new.conns k ≡ None }
         ensures accounts { (base : Seen) (from to : Desk) → result ≡ true → Accounts base (W.seen world.old) from to self.old.conns
             → Accounts base (W.seen world.new) from to self.new.conns }

@@ -1,6 +1,8 @@
 //! A worker's run.
 ghost use Rattle.std.specs.Prelude.{◌≡◌, ◌≢◌, ◌++◌, ℕ, List, IfSome, None};
-ghost use Rattle.slab.specs.Slab.{get};
+ghost use Rattle.slab.specs.Slab.{Slab, get};
+ghost use Rattle.conn_machine.specs.declared.conn.Conn.{Conn};
+ghost use Rattle.worker_loop.specs.Settled.{EndsOnly, StoppedAfter};
 ghost use Rattle.desk.specs.Desks.{Desk};
 ghost use Rattle.worker_loop.specs.Accounts.{Accounts};
 ghost use Rattle.link_world.specs.Log.{Event};
@@ -53,6 +55,10 @@ pub fn run_worker<R: Wait, W: World, S: Shared>(
         → Accounts base (W.seen world.old) from (S.desk shared.old) worker.old.conns
         → Accounts base (W.seen world.new) from (S.desk shared.new) worker.new.conns }
     ensures stopped { result ≡ WorkerEnd.Stopped → Rose (W.seen world.old).stops (W.seen world.new).stops }
+
+    // All was settled when the stop was asked for.
+    ensures settled { result ≡ WorkerEnd.Stopped → (at : W) × (conns : Slab Conn)
+        × StoppedAfter (W.seen at) (W.lately at) (W.seen world.new) conns worker.old.links }
     ensures unasked { result ≡ WorkerEnd.WorldFault → (W.seen world.new).stops ≡ (W.seen world.old).stops }
     ensures fault { result ≡ WorkerEnd.WorldFault → Rose (W.seen world.old).waits_failed (W.seen world.new).waits_failed }
 {
@@ -78,6 +84,7 @@ fn finish<W: World>(alloc: Global, worker: &mut Worker, world: &mut W, end: Work
     ensures runs { (base : Seen) (g : List Plan) → Stopping base (W.seen world.old) → Runs base (W.seen world.old) g worker.old.conns
         → Runs base (W.seen world.new) g worker.new.conns }
     ensures unasked { Unasked (W.seen world.old) (W.seen world.new) }
+    ensures ends { EndsOnly (W.seen world.old) (W.seen world.new) worker.old.conns }
     ensures ended { (k : ℕ) → get worker.new.conns k ≡ None }
     ensures accounts { (base : Seen) (from to : Desk) → result ≢ WorkerEnd.Memory → Accounts base (W.seen world.old) from to worker.old.conns
         → Accounts base (W.seen world.new) from to worker.new.conns }

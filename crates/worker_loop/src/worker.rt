@@ -1,5 +1,6 @@
 //! A worker's turn.
-ghost use Rattle.std.specs.Prelude.{◌≡◌, ◌≢◌, ◌≤◌, ℕ, List, OnOk, OnErr, IfOk, IfSome, IfNone, true, false};
+ghost use Rattle.std.specs.Prelude.{◌≡◌, ◌≢◌, ◌≤◌, ◌+◌, ℕ, List, OnOk, OnErr, IfOk, IfSome, IfNone, true, false};
+ghost use Rattle.slab.specs.Slab.{slab_len};
 ghost use Rattle.link_world.specs.Seen.{Seen, CloseDid};
 ghost use Rattle.link_world.specs.Lately.{OnlyAt};
 ghost use Rattle.conversation.specs.Plans.{Plan};
@@ -34,6 +35,7 @@ impl Worker {
         requires { links ≤ 4096 }
         ensures attends { (now : Seen) (generations : List Plan) → IfOk result (λ worker. Attends now generations worker.conns) }
         ensures links { IfOk result (λ worker. worker.links ≡ links) }
+        ensures most { IfOk result (λ worker. slab_len worker.conns ≤ worker.links) }
         ensures accounts { (now : Seen) (desk : Desk) → IfOk result (λ worker. Accounts now now desk desk worker.conns) }
     {
         let mut conns = Slab::new(alloc);
@@ -60,6 +62,9 @@ impl Worker {
             → Runs base (W.seen world.new) (S.desk shared.new).generations self.new.conns }
         ensures stops { (W.seen world.new).stops ≡ (W.seen world.old).stops }
         ensures links { self.new.links ≡ self.old.links }
+
+        // No more clients are served at a time than may be.
+        ensures most { slab_len self.old.conns ≤ self.old.links → slab_len self.new.conns ≤ self.new.links }
 
         // Each pin of the desk since the worker first used it is accounted for.
         ensures accounts { (base : Seen) (from : Desk) → OnOk result (Accounts base (W.seen world.old) from (S.desk shared.old) self.old.conns
@@ -92,6 +97,7 @@ impl Worker {
             → Runs base (W.seen world.new) (S.desk shared.new).generations self.new.conns }
         ensures stops { (W.seen world.new).stops ≡ (W.seen world.old).stops }
         ensures links { self.new.links ≡ self.old.links }
+        ensures fewer { slab_len self.new.conns ≤ slab_len self.old.conns }
         ensures turn { SameTurn (W.lately world.old) (W.lately world.new) }
         ensures accounts { (base : Seen) (from : Desk) → OnOk result (Accounts base (W.seen world.old) from (S.desk shared.old) self.old.conns
             → Accounts base (W.seen world.new) from (S.desk shared.new) self.new.conns) }
@@ -117,6 +123,7 @@ impl Worker {
             → Runs base (W.seen world.new) (S.desk shared.new).generations self.new.conns }
         ensures stops { (W.seen world.new).stops ≡ (W.seen world.old).stops }
         ensures links { self.new.links ≡ self.old.links }
+        ensures more { slab_len self.new.conns ≤ slab_len self.old.conns + 1 }
         ensures clocked { (W.lately world.new).clocked ≡ (W.lately world.old).clocked }
         ensures none { IfOk result (λ came. came ≡ false → (W.lately world.new).no_more ≡ true) }
         ensures accounts { (base : Seen) (from : Desk) → OnOk result (Accounts base (W.seen world.old) from (S.desk shared.old) self.old.conns
@@ -139,6 +146,7 @@ impl Worker {
             → Accounts base (W.seen world.new) from f self.new.conns) }
         ensures stops { (W.seen world.new).stops ≡ (W.seen world.old).stops }
         ensures links { self.new.links ≡ self.old.links }
+        ensures more { slab_len self.new.conns ≤ slab_len self.old.conns + 1 }
         ensures clocked { (W.lately world.new).clocked ≡ (W.lately world.old).clocked }
         ensures none { IfOk result (λ key. IfNone key ((W.lately world.new).no_more ≡ true)) }
         ensures kept { IfOk result (λ key. IfNone key (AllSettled (W.lately world.old) self.old.conns → AllSettled (W.lately world.new) self.new.conns)) }

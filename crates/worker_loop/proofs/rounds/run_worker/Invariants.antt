@@ -11,3 +11,4 @@ invariant-loop g l =
     × Runs (g.W.World.seen l.fn.world) (g.W.World.seen l.world) (g.S.Shared.desk l.shared).generations l.worker.conns
     × ((g.W.World.seen l.world).stops ≡ (g.W.World.seen l.fn.world).stops)
     × ((base : Seen) (from : Desk) → Accounts base (g.W.World.seen l.fn.world) from (g.S.Shared.desk l.fn.shared) l.fn.worker.conns → Accounts base (g.W.World.seen l.world) from (g.S.Shared.desk l.shared) l.worker.conns)
+    × (l.worker.links ≡ l.fn.worker.links)

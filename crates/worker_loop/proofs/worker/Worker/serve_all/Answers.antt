@@ -4,7 +4,7 @@ use Rattle.worker_loop.proofs.Comings.{all_settled}
 use Rattle.worker_loop.proofs.worker.Worker.serve_all.Goals as goal
 
 pub loop-key-init : goal.loop-key-init
-loop-key-init g c = (λ base r. r, refl, record { clocked = refl; no_more = refl }, λ k lt. absurd (omega arith), λ k le. past_slots c.args.self.now.conns.slots k (omega (arith, c.capacity-end.ensures.slots, le)), refl, λ base from a. a)
+loop-key-init g c = (λ base r. r, refl, record { clocked = refl; no_more = refl }, λ k lt. absurd (omega arith), λ k le. past_slots c.args.self.now.conns.slots k (omega (arith, c.capacity-end.ensures.slots, le)), refl, λ base from a. a, omega arith)
 
 pub serve_key-requires : goal.serve_key-requires
 serve_key-requires g c = runs_attends (c.loop-key.invariant.0 _ (runs_none _ _ _ c.requires))
@@ -23,6 +23,7 @@ loop-key-preserved g c =
       λ k le. c.serve_key.ensures.others k (λ same. omega (arith, same, le, c.loop-key-test.true)) ∙ c.loop-key.invariant.4 k le,
       c.serve_key.ensures.stops ∙ c.loop-key.invariant.5,
       λ base from a. c.in_ok-serve_key.ensures.accounts base from (c.loop-key.invariant.6 base from a),
+      omega (arith, c.serve_key.ensures.fewer, c.loop-key.invariant.7),
     )
 
 pub returns-clause-settled : goal.returns-clause-settled

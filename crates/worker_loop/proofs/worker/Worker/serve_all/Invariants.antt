@@ -1,5 +1,5 @@
 use Rattle.std.proofs.Common.{◌≡◌, ◌<◌, ◌≤◌, ℕ, None}
-use Rattle.slab.specs.Slab.{get}
+use Rattle.slab.specs.Slab.{get, slab_len}
 use Rattle.link_world.specs.Seen.{Seen}
 use Rattle.desk.specs.Desks.{Desk}
 use Rattle.worker_loop.specs.Accounts.{Accounts}
@@ -16,3 +16,4 @@ invariant-loop-key g l =
     × ((k : ℕ) → l.end ≤ k → get l.self.conns k ≡ None)
     × ((g.W.World.seen l.world).stops ≡ (g.W.World.seen l.fn.world).stops)
     × ((base : Seen) (from : Desk) → Accounts base (g.W.World.seen l.fn.world) from (g.S.Shared.desk l.fn.shared) l.fn.self.conns → Accounts base (g.W.World.seen l.world) from (g.S.Shared.desk l.shared) l.self.conns)
+    × (slab_len l.self.conns ≤ slab_len l.fn.self.conns)

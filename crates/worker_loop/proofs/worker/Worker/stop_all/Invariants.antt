@@ -5,6 +5,7 @@ use Rattle.conversation.specs.Plans.{Plan}
 use Rattle.desk.specs.Desks.{Desk}
 use Rattle.worker_loop.specs.Accounts.{Accounts}
 use Rattle.worker_loop.specs.Runs.{Runs, Stopping, IsStopping, Unasked}
+use Rattle.worker_loop.specs.Settled.{EndsOnly}
 use Rattle.worker_loop.proofs.worker.Worker.stop_all.Given as goal
 
 -- the connections stay attended, and a run with a reason to stop goes on
@@ -16,3 +17,5 @@ invariant-loop-key g l =
     × ((k : ℕ) → k < l.key → get l.self.conns k ≡ None)
     × ((k : ℕ) → l.end ≤ k → get l.self.conns k ≡ None)
     × ((base : Seen) (from to : Desk) → l.all ≡ true → Accounts base (g.W.World.seen l.fn.world) from to l.fn.self.conns → Accounts base (g.W.World.seen l.world) from to l.self.conns)
+    × ((k : ℕ) → l.key ≤ k → get l.self.conns k ≡ get l.fn.self.conns k)
+    × EndsOnly (g.W.World.seen l.fn.world) (g.W.World.seen l.world) l.fn.self.conns

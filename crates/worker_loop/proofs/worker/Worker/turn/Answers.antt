@@ -15,7 +15,7 @@ pub returns-in_err-serve_all-clause-stops : goal.returns-in_err-serve_all-clause
 returns-in_err-serve_all-clause-stops g c = c.serve_all.ensures.stops ∙ clock_stops c.now.result c.now.ensures.seen
 
 pub loop-init : goal.loop-init
-loop-init g c = (tt, tt, λ base r. c.serve_all.ensures.runs base (step_clock c.now.result c.now.ensures.seen r), c.serve_all.ensures.turn.clocked ∙ ap (λ (l : Lately). l.clocked) c.now.ensures.lately, c.in_ok-serve_all.ensures.settled, c.serve_all.ensures.stops ∙ clock_stops c.now.result c.now.ensures.seen, c.serve_all.ensures.links, λ base from a. c.in_ok-serve_all.ensures.accounts base from (accounts_clock c.now.result c.now.ensures.seen a))
+loop-init g c = (tt, tt, λ base r. c.serve_all.ensures.runs base (step_clock c.now.result c.now.ensures.seen r), c.serve_all.ensures.turn.clocked ∙ ap (λ (l : Lately). l.clocked) c.now.ensures.lately, c.in_ok-serve_all.ensures.settled, c.serve_all.ensures.stops ∙ clock_stops c.now.result c.now.ensures.seen, c.serve_all.ensures.links, λ base from a. c.in_ok-serve_all.ensures.accounts base from (accounts_clock c.now.result c.now.ensures.seen a), λ most. let le = c.serve_all.ensures.fewer in let same = c.serve_all.ensures.links in omega (arith, most, le, same))
 
 pub welcome-requires : goal.welcome-requires
 welcome-requires g c = runs_attends (c.loop.invariant.2 _ (runs_none _ _ _ c.requires))
@@ -29,7 +29,7 @@ returns-then-not-branch-clause-done g c = record {
 }
 
 pub loop-preserved : goal.loop-preserved
-loop-preserved g c = (tt, tt, λ base r. c.welcome.ensures.runs base (c.loop.invariant.2 base r), c.welcome.ensures.clocked ∙ c.loop.invariant.3, c.in_ok-welcome.ensures.settled c.loop.invariant.4, c.welcome.ensures.stops ∙ c.loop.invariant.5, c.welcome.ensures.links ∙ c.loop.invariant.6, λ base from a. c.in_ok-welcome.ensures.accounts base from (c.loop.invariant.7 base from a))
+loop-preserved g c = (tt, tt, λ base r. c.welcome.ensures.runs base (c.loop.invariant.2 base r), c.welcome.ensures.clocked ∙ c.loop.invariant.3, c.in_ok-welcome.ensures.settled c.loop.invariant.4, c.welcome.ensures.stops ∙ c.loop.invariant.5, c.welcome.ensures.links ∙ c.loop.invariant.6, λ base from a. c.in_ok-welcome.ensures.accounts base from (c.loop.invariant.7 base from a), λ most. let le = c.welcome.ensures.more in let same = c.welcome.ensures.links in let lt = c.if-len-self.false in let len = c.len.ensures in omega (arith, le, same, lt, len))
 
 pub returns-then-len-self-clause-accounts : goal.returns-then-len-self-clause-accounts
 returns-then-len-self-clause-accounts g c = c.loop.invariant.7

@@ -1,4 +1,5 @@
-use Rattle.std.proofs.Common.{◌≡◌, true}
+use Rattle.std.proofs.Common.{◌≡◌, ◌≤◌, true}
+use Rattle.slab.specs.Slab.{slab_len}
 use Rattle.link_world.specs.Seen.{Seen}
 use Rattle.desk.specs.Desks.{Desk}
 use Rattle.worker_loop.specs.Accounts.{Accounts}
@@ -15,3 +16,4 @@ invariant-loop g l =
     × ((g.W.World.seen l.world).stops ≡ (g.W.World.seen l.fn.world).stops)
     × (l.self.links ≡ l.fn.self.links)
     × ((base : Seen) (from : Desk) → Accounts base (g.W.World.seen l.fn.world) from (g.S.Shared.desk l.fn.shared) l.fn.self.conns → Accounts base (g.W.World.seen l.world) from (g.S.Shared.desk l.shared) l.self.conns)
+    × (slab_len l.fn.self.conns ≤ l.fn.self.links → slab_len l.self.conns ≤ l.self.links)
