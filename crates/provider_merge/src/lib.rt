@@ -1,0 +1,9 @@
+//! The configurations of all providers as one.
+#![tactic(auto)]
+
+mod merge;
+#[cfg(test)]
+mod tests;
+mod union;
+
+pub use merge::merge;
