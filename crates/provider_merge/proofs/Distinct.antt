@@ -98,7 +98,10 @@ unfolding IsDistinct
 neighbours [] k d l = absurd (omega (arith, l))
 neighbours (x ∷ []) k d l = absurd (omega (arith, l))
 neighbours (x ∷ y ∷ ks) zero d l = d.0.0
-neighbours (x ∷ y ∷ ks) (suc k) d l = neighbours (y ∷ ks) k d.1 (omega (arith, l))
+neighbours (x ∷ y ∷ ks) (suc k) d l =
+    let P : ℕ → Type 0 = λ n. same (get_or (y ∷ ks) k []) (get_or (x ∷ y ∷ ks) n []) ≡ false in
+    let e : suc (k + 1) ≡ suc k + 1 = omega arith in
+    subst P e (neighbours (y ∷ ks) k d.1 (omega (arith, l)))
 
 is_less : (o : Ordering) → o ≡ Greater → is_lt (ordering_reverse o) ≡ true
 is_less o e = ap (λ w. is_lt (ordering_reverse w)) e

@@ -1,9 +1,9 @@
 //! The configurations of all providers as one.
 #![tactic(auto)]
 
-mod merge;
-#[cfg(test)]
-mod tests;
+mod both;
+
+
 mod union;
 
-pub use merge::merge;
+pub use both::merge;
