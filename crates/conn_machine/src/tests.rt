@@ -3,7 +3,6 @@ use crate::{Conn, Want};
 use generation::Generation;
 use ip_net::Ip;
 use link_world::{Cause, EndCause, Note, NoteBody};
-use px_base::List;
 use std::alloc::Global;
 use std::process::Abort;
 use std::sync::Arc;
@@ -22,7 +21,7 @@ fn give(rt: &impl Abort, alloc: Global, conn: &mut Conn, piece: &[u8]) -> Result
 
 // A configuration without routers.
 fn pin(rt: &impl Abort, alloc: Global, conn: &mut Conn) -> Result<(), Fail> {
-    let issue = Arc::new(alloc, Generation::new(7, List::new(alloc)))?;
+    let issue = Arc::new(alloc, Generation::empty(alloc, 7)?)?;
     if conn.want() == Want::Pin && conn.current.number <= 7 {
         conn.pin(alloc, issue)?;
     } else {

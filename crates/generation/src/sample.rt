@@ -1,5 +1,6 @@
 //! A small configuration.
-ghost use Rattle.std.specs.Prelude.{◌≡◌};
+ghost use Rattle.std.specs.Prelude.{◌≡◌, ◌∷◌, [], true, IfOk};
+ghost use Rattle.dyn_config.specs.Kept.{is_service};
 
 use crate::building::{Built, build_generation};
 use dyn_config::{BalancerDef, Entry, Merged, RouterDef, ServerDef, ServiceDef};
@@ -14,24 +15,41 @@ pub fn one_router(alloc: Global, number: u64, rule: &[u8], url: &[u8]) -> Result
     build_generation(alloc, number, &merged, &mut RegexShop::new(alloc))
 }
 
-fn merged_of(alloc: Global, router: RouterDef, service: ServiceDef) -> Result<Merged, Memory> {
-    let mut routers = List::new(alloc);
-    routers.push(Entry {
-        name: Bytes::from_slice(alloc, b"web@file")?,
-        provider: 0,
-        def: router,
-    })?;
-    let mut services = List::new(alloc);
-    services.push(Entry {
-        name: Bytes::from_slice(alloc, b"app@file")?,
-        provider: 0,
-        def: service,
-    })?;
+fn merged_of(alloc: Global, router: RouterDef, service: ServiceDef) -> Result<Merged, Memory>
+    requires { is_service service ≡ true }
+{
+    let web = Bytes::from_slice(alloc, b"web@file")?;
+    let routers = only(
+        alloc,
+        Entry {
+            name: web,
+            provider: 0,
+            def: router,
+        },
+    )?;
+    let app = Bytes::from_slice(alloc, b"app@file")?;
+    let services = only(
+        alloc,
+        Entry {
+            name: app,
+            provider: 0,
+            def: service,
+        },
+    )?;
     Ok(Merged {
         routers,
         services,
         middlewares: List::new(alloc),
     })
+}
+
+// A list of one.
+fn only<T: Drop>(alloc: Global, item: T) -> Result<List<T>, Memory>
+    ensures { IfOk result (λ items. items ≡ item ∷ []) }
+{
+    let mut items = List::new(alloc);
+    items.push(item)?;
+    Ok(items)
 }
 
 fn router_of(alloc: Global, rule: &[u8]) -> Result<RouterDef, Memory> {
@@ -46,12 +64,11 @@ fn router_of(alloc: Global, rule: &[u8]) -> Result<RouterDef, Memory> {
     })
 }
 
-fn service_of(alloc: Global, url: &[u8]) -> Result<ServiceDef, Memory> {
-    let mut servers = List::new(alloc);
-    servers.push(ServerDef {
-        url: Bytes::from_slice(alloc, url)?,
-        weight: 1,
-    })?;
+fn service_of(alloc: Global, url: &[u8]) -> Result<ServiceDef, Memory>
+    ensures { IfOk result (λ service. is_service service ≡ true) }
+{
+    let url = Bytes::from_slice(alloc, url)?;
+    let servers = only(alloc, ServerDef { url, weight: 1 })?;
     Ok(ServiceDef::Balancer(BalancerDef {
         servers,
         sticky: None,
