@@ -7,3 +7,5 @@ pub mod Walkings
 pub mod Exchanges
 pub mod Happenings
 pub mod Passings
+pub mod Prompts
+pub mod Events

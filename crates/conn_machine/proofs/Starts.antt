@@ -49,7 +49,7 @@ pub opened_new : (k : Client) (m : Current) (trail : Trail) (entry input pending
     → m.pinned ≡ false → m.number ≡ 0 → m.index ≡ 1 → Opened (happened k.link (came entry k.peer) ∷ []) k m trail input pending waiting false Head
 opened_new k m trail entry input pending waiting e i p w unpinned number index = rw (e, i, p, w) (opened_came k m trail unpinned number index)
 
-short_take : (input : List ℕ) → length (take 16384 input) < 16384 → take 16384 input ≡ input
+pub short_take : (input : List ℕ) → length (take 16384 input) < 16384 → take 16384 input ≡ input
 short_take input short =
     let e : length (take 16384 input) ≡ min 16384 (length input) = length-take 16384 input in
     let le : length input ≤ 16384 = omega arith in
@@ -61,10 +61,10 @@ pub reached_client : {steps : List Step} (d : Conn) → d.phase ≡ Over ByClien
     → Opened steps d.client d.current (trail_of d) d.input.items (pending_of d) d.notes.items d.over Head → Reached steps d
 reached_client {steps} d is over part o =
     reached_over d ByClient is o
-    (o.holds.closes over, o.stage.none, o.stage.last_is, o.kept, inl (subst MayBecomeRequest (whole ∙ sym o.stage.rest_is) part.0))
+    (o.holds.closes over, o.stage.none, o.stage.last_is, o.kept, inl (subst MayBecomeRequest (whole ∙ sym o.stage.rest_is) part.continues))
   where
     whole : take 16384 d.input.items ≡ d.input.items
-    whole = short_take d.input.items part.1
+    whole = short_take d.input.items part.room
 
 front_take : (n : ℕ) (input : List ℕ) → n ≤ length (take 16384 input) → take n (take 16384 input) ≡ take n input
 front_take n input le = sym (take-append-le n (take 16384 input) (drop 16384 input) le) ∙ ap (λ (l : List ℕ). take n l) (take-append-drop 16384 input)

@@ -17,7 +17,8 @@ use Rattle.link_world.specs.declared.note.EndCause.{EndCause}
 use Rattle.link_world.specs.declared.note.EndCause.TheVariants as ending
 use Rattle.conversation.specs.Plans.{Plan, Target, IsWinner}
 use Rattle.link_world.specs.Log.{given, taken, ends}
-use Rattle.conversation.specs.Asks.{Ask, asks, IsHead, IsItem, judged, refusal}
+use Rattle.head_view.specs.Scans.{HasHead}
+use Rattle.conversation.specs.Asks.{Ask, asks, IsHead, IsItem, judged, refusal, head_limit, line_limit}
 use Rattle.conversation.specs.Turns.{Stage as TurnStage, Turn, BackLink, links_of, ends_asked, closes, message_to, IsUndecided, unrouted, routed, down, up, refused, picked, sent, IsSent}
 use Rattle.generation.specs.declared.generation.Generation.{Generation}
 use Rattle.generation.specs.Meaning.{plan_of}
@@ -51,9 +52,15 @@ Fits Nothing ask = ⊥
 Fits (Request r) ask = ask ≡ asks r
 Fits (Refused cause) ask = refusal ask ≡ Some (refused_status cause, cause)
 
+-- the bytes are a part of a head: none is whole, one may become, and there is room for more
+pub record IsPart (buf : List ℕ) : Type 0 where
+  pub unfinished : ¬ (HasHead line_limit buf)
+  pub continues : MayBecomeRequest buf
+  pub room : length buf < head_limit
+
 -- what was found at the front of the client's bytes
 abbrev pub IsFound : Ip → List ℕ → Found → Type 0
-IsFound peer buf found.Part = MayBecomeRequest buf × (length buf < 16384)
+IsFound peer buf found.Part = IsPart buf
 IsFound peer buf (found.Head asked n) = (n ≤ length buf) × (ask : Ask) × IsItem peer (take n buf) ask × Fits asked ask
 
 -- why the connection ends after the reply

@@ -4,6 +4,8 @@ use Rattle.std.specs.List.{AllByRecursion}
 use Rattle.link_world.specs.declared.note.Note.{Note}
 use Rattle.link_world.specs.declared.note.NoteBody.{NoteBody}
 use Rattle.link_world.specs.declared.note.NoteBody.TheVariants as body
+use Rattle.link_world.specs.declared.note.EndCause.{EndCause}
+use Rattle.link_world.specs.declared.note.EndCause.TheVariants as ending
 use Rattle.link_world.specs.Log.{notes}
 use Rattle.conversation.specs.Steps.{Step, history, failures, stops}
 use Rattle.conversation.specs.Turns.{Turn}
@@ -103,6 +105,10 @@ WantsNode c node = (a : Aim) → c.current.aim ≡ Some a → node ≡ a.node
 abbrev pub WaitsOver : Stage → Conn → Type 0
 WaitsOver at c = Waits at c ⊎ IsEnding c.phase
 
+-- an exchange that goes on is on the same link
+abbrev pub KeepsServer : Conn → Conn → Type 0
+KeepsServer old new = Waits stage.Exchange new → Waits stage.Exchange old × (new.current.link ≡ old.current.link)
+
 -- what of its message the link to the server hasn't taken
 abbrev pub pending_to : Option BackView → List ℕ
 pending_to None = []
@@ -130,11 +136,16 @@ pub record HasRoom (n : ℕ) (c : Conn) : Type 0 where
   pub picks : vec_len c.picks < vec_capacity c.picks
   pub backs : vec_len c.backs < vec_capacity c.backs
 
--- the machine isn't broken
+-- another cause than want of memory
+abbrev pub HasMemory : EndCause → Type 0
+HasMemory ending.Memory = ⊥
+HasMemory _ = Unit {0}
+
+-- the machine isn't broken, and doesn't end for want of memory
 abbrev pub IsGoing : Phase → Type 0
 IsGoing Open = Unit {0}
 IsGoing Broken = ⊥
-IsGoing (Over cause) = Unit {0}
+IsGoing (Over cause) = HasMemory cause
 IsGoing (Told cause) = Unit {0}
 
 abbrev pub IsTold : Phase → Type 0
@@ -145,6 +156,16 @@ IsTold (Told cause) = Unit {0}
 
 abbrev pub IsFinished : Conn → Type 0
 IsFinished c = (c.notes.items ≡ []) × IsTold c.phase
+
+abbrev pub IsNotOver : Phase → Type 0
+IsNotOver Open = Unit {0}
+IsNotOver Broken = Unit {0}
+IsNotOver (Over cause) = ⊥
+IsNotOver (Told cause) = Unit {0}
+
+-- it has nothing to note
+abbrev pub IsDrained : Conn → Type 0
+IsDrained c = (c.notes.items ≡ []) × IsNotOver c.phase
 
 -- the note is no end
 abbrev pub IsRequestBody : NoteBody → Type 0

@@ -5,7 +5,7 @@ use Rattle.http_wire.specs.declared.message.Reply.{Reply}
 use Rattle.http_wire.specs.declared.message.Request.{Request as HttpRequest}
 use Rattle.link_world.specs.declared.note.Cause.{Cause}
 use Rattle.link_world.specs.declared.note.Cause.TheVariants as causes
-use Rattle.back_machine.specs.Exchanges.{BackView, Exchanged}
+use Rattle.back_machine.specs.Exchanges.{BackView, Exchanged, IsOpen}
 use Rattle.back_machine.specs.declared.state.BackState.TheVariants.{Done, Broken}
 use Rattle.back_machine.specs.declared.state.BackCause.{BackCause}
 use Rattle.back_machine.specs.declared.state.BackCause.TheVariants.{Failed, Bad, Ended}
@@ -36,9 +36,14 @@ abbrev pub heard_cause : Option Reply → Cause → Cause
 heard_cause None cause = cause
 heard_cause (Some a) cause = causes.Passed
 
+-- the exchange, where there is one, goes on
+abbrev pub IsOpenBack : Option BackView → Type 0
+IsOpenBack None = Unit {0}
+IsOpenBack (Some b) = IsOpen b.state
+
 -- how far an exchange is
 abbrev pub IsOutcome : Outcome → Option BackView → Type 0
-IsOutcome out.Going o = Unit {0}
+IsOutcome out.Going o = IsOpenBack o
 IsOutcome out.Whole o = (b : BackView) × (o ≡ Some b) × (b.state ≡ Done)
 IsOutcome out.Cut o = (b : BackView) × (cause : BackCause) × (o ≡ Some b) × (b.state ≡ Broken cause) × (b.reply ≢ None)
 IsOutcome (out.Lost cause) o = (b : BackView) × (o ≡ Some b) × (b.state ≡ Broken cause) × (b.reply ≡ None)

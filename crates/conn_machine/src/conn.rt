@@ -2,7 +2,10 @@
 ghost use Rattle.std.specs.Prelude.{◌≡◌, ◌≤◌, ◌<◌, ◌+◌, ◌++◌, ◌∷◌, [], List, ℕ, length, take, false, IfOk, OnOk, OnErr, IsTrue, ◌↔◌, vec_len, vec_capacity};
 ghost use Rattle.link_world.specs.Log.{came, gave, gave_end};
 ghost use Rattle.conversation.specs.Steps.{Step, happened, failed, stopped};
-ghost use Rattle.conn_machine.specs.Reached.{Reached, IsOpen, Waits, HasRoom, IsEnding, IsGoing, trail_of, pending_of};
+ghost use Rattle.conn_machine.specs.Events.{IsEnabled};
+ghost use Rattle.conn_machine.specs.declared.event.EventShape.{EventShape};
+ghost use Rattle.conn_machine.specs.Prompt.{IsPrompt};
+ghost use Rattle.conn_machine.specs.Reached.{Reached, IsOpen, Waits, KeepsServer, HasRoom, IsEnding, IsGoing, trail_of, pending_of};
 
 use crate::heads::{Found, read_head};
 use crate::parts::{Asked, Client, Current, Phase, Stage};
@@ -34,6 +37,7 @@ impl Conn {
         ensures link { IfOk result (λ c. c.client.link ≡ link) }
         ensures waits { IfOk result (Waits Stage.Head) }
         ensures number { IfOk result (λ c. c.current.number ≡ 0) }
+        ensures prompt { IfOk result IsPrompt }
         ensures reached { IfOk result (Reached (happened link (came entry.now peer) ∷ [])) }
     {
         let entry = Bytes::from_slice(alloc, entry)?;
@@ -73,7 +77,13 @@ impl Conn {
         ensures phase { self.new.phase ≡ self.old.phase }
         ensures stage { self.new.stage ≡ self.old.stage }
         ensures input { self.new.input.items ≡ self.old.input.items }
+        ensures rest { self.new ≡ record self.old { notes = self.new.notes; looks = self.new.looks; picks = self.new.picks; backs = self.new.backs; input = self.new.input } }
+        ensures notes { self.new.notes.items ≡ self.old.notes.items }
+        ensures enabled { (shape : EventShape) → IsEnabled shape self.old → IsEnabled shape self.new }
         ensures room { OnOk result (HasRoom n self.new) }
+        ensures prompt { IsPrompt self.old → IsPrompt self.new }
+        ensures over { self.new.over ≡ self.old.over }
+        ensures pending { pending_of self.new ≡ pending_of self.old }
         ensures reached { (steps : List Step) → Reached steps self.old → Reached steps self.new }
     {
         self.notes.reserve(1)?;
@@ -88,21 +98,26 @@ impl Conn {
         requires open { IsOpen self.old }
         requires room { vec_len self.old.input + length piece.now ≤ vec_capacity self.old.input }
         ensures client { self.new.client ≡ self.old.client }
+        ensures number { self.new.current.number ≡ self.old.current.number }
         ensures going { OnOk result (IsGoing self.new.phase) }
+        ensures prompt { IsPrompt self.old → OnOk result (IsPrompt self.new) }
+        ensures server { KeepsServer self.old self.new }
         ensures reached { (steps : List Step) → Reached steps self.old
             → Reached (steps ++ happened self.old.client.link (gave piece.now) ∷ []) self.new }
     {
         self.feed(piece);
-        match self.stage {
-            Stage::Head => self.find_head(alloc),
-            _ => Ok(()),
+        if !matches!(self.stage, Stage::Head) {
+            return Ok(());
         }
+        self.find_head(alloc)
     }
 
     fn feed(&mut self, piece: &[u8])
         requires open { IsOpen self.old }
         requires room { vec_len self.old.input + length piece.now ≤ vec_capacity self.old.input }
         ensures client { self.new.client ≡ self.old.client }
+        ensures current { self.new.current ≡ self.old.current }
+        ensures pending { pending_of self.new ≡ pending_of self.old }
         ensures open { IsOpen self.new }
         ensures stage { self.new.stage ≡ self.old.stage }
         ensures reached { (steps : List Step) → Reached steps self.old
@@ -115,20 +130,25 @@ impl Conn {
     pub fn end(&mut self, alloc: Global) -> Result<(), Memory>
         requires { IsOpen self.old }
         ensures client { self.new.client ≡ self.old.client }
+        ensures number { self.new.current.number ≡ self.old.current.number }
         ensures going { OnOk result (IsGoing self.new.phase) }
+        ensures prompt { IsPrompt self.old → OnOk result (IsPrompt self.new) }
+        ensures server { KeepsServer self.old self.new }
         ensures reached { (steps : List Step) → Reached steps self.old
             → Reached (steps ++ happened self.old.client.link gave_end ∷ []) self.new }
     {
         self.close();
-        match self.stage {
-            Stage::Head => self.find_head(alloc),
-            _ => Ok(()),
+        if !matches!(self.stage, Stage::Head) {
+            return Ok(());
         }
+        self.find_head(alloc)
     }
 
     fn close(&mut self)
         requires { IsOpen self.old }
         ensures client { self.new.client ≡ self.old.client }
+        ensures current { self.new.current ≡ self.old.current }
+        ensures pending { pending_of self.new ≡ pending_of self.old }
         ensures open { IsOpen self.new }
         ensures stage { self.new.stage ≡ self.old.stage }
         ensures reached { (steps : List Step) → Reached steps self.old
@@ -143,6 +163,8 @@ impl Conn {
         ensures client { self.new.client ≡ self.old.client }
         ensures going { OnOk result (IsGoing self.new.phase) }
         ensures number { self.new.current.number ≡ self.old.current.number }
+        ensures prompt { OnOk result (IsPrompt self.new) }
+        ensures server { ¬ (Waits Stage.Exchange self.new) }
         ensures reached { (steps : List Step) → Reached steps self.old → Reached steps self.new }
     {
         self.phase = Phase::Broken;
@@ -167,6 +189,7 @@ impl Conn {
     pub fn fail(&mut self)
         requires { IsOpen self.old }
         ensures client { self.new.client ≡ self.old.client }
+        ensures number { self.new.current.number ≡ self.old.current.number }
         ensures over { self.new.phase ≡ Phase.Over EndCause.ClientFailed }
         ensures reached { (steps : List Step) → Reached steps self.old
             → Reached (steps ++ failed self.old.client.link ∷ []) self.new }
@@ -178,6 +201,7 @@ impl Conn {
     pub fn stop(&mut self)
         requires { IsOpen self.old }
         ensures client { self.new.client ≡ self.old.client }
+        ensures number { self.new.current.number ≡ self.old.current.number }
         ensures over { self.new.phase ≡ Phase.Over EndCause.Stopped }
         ensures reached { (steps : List Step) → Reached steps self.old → Reached (steps ++ stopped ∷ []) self.new }
     {
@@ -187,6 +211,7 @@ impl Conn {
     /// A call for this connection found no memory. This takes none.
     pub fn give_up(&mut self)
         ensures client { self.new.client ≡ self.old.client }
+        ensures number { self.new.current.number ≡ self.old.current.number }
         ensures over { IsEnding self.new.phase }
         ensures reached { (steps : List Step) → Reached steps self.old → Reached steps self.new }
     {

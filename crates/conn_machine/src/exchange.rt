@@ -6,7 +6,8 @@ ghost use Rattle.link_world.specs.Log.{dialled, gave, gave_end, took};
 ghost use Rattle.http_wire.specs.declared.message.Request.{Request as HttpRequest};
 ghost use Rattle.conversation.specs.Steps.{Step, happened, failed, IsNew};
 ghost use Rattle.conn_machine.specs.Parts.{HasBegun};
-ghost use Rattle.conn_machine.specs.Reached.{Reached, IsGoing, Waits, back_pending_of};
+ghost use Rattle.conn_machine.specs.Prompt.{IsPrompt};
+ghost use Rattle.conn_machine.specs.Reached.{Reached, IsGoing, Waits, KeepsServer, back_pending_of};
 
 use crate::conn::Conn;
 use crate::parts::{Aim, Asked, Current, Phase, Stage};
@@ -22,6 +23,8 @@ impl Conn {
         ensures client { self.new.client ≡ self.old.client }
         ensures number { self.new.current.number ≡ self.old.current.number }
         ensures going { OnOk result (IsGoing self.new.phase) }
+        ensures prompt { OnOk result (IsPrompt self.new) }
+        ensures server { Waits Stage.Exchange self.new → self.new.current.link ≡ link }
         ensures reached { (steps : List Step) (a : Aim) → self.old.current.aim ≡ Some a → IsNew link steps → Reached steps self.old
             → Reached (steps ++ happened link (dialled a.server.host a.server.port) ∷ []) self.new }
     {
@@ -35,6 +38,7 @@ impl Conn {
         ensures client { self.new.client ≡ self.old.client }
         ensures number { self.new.current.number ≡ self.old.current.number }
         ensures waits { Waits Stage.Dialled self.new }
+        ensures link { self.new.current.link ≡ link }
         ensures reached { (steps : List Step) (a : Aim) → self.old.current.aim ≡ Some a → IsNew link steps → Reached steps self.old
             → Reached (steps ++ happened link (dialled a.server.host a.server.port) ∷ []) self.new }
     {
@@ -49,6 +53,8 @@ impl Conn {
         ensures client { self.new.client ≡ self.old.client }
         ensures number { self.new.current.number ≡ self.old.current.number }
         ensures going { OnOk result (IsGoing self.new.phase) }
+        ensures prompt { OnOk result (IsPrompt self.new) }
+        ensures link { self.new.current.link ≡ self.old.current.link }
         ensures reached { (steps : List Step) → Reached steps self.old → Reached steps self.new }
     {
         self.phase = Phase::Broken;
@@ -66,6 +72,8 @@ impl Conn {
         ensures client { self.new.client ≡ self.old.client }
         ensures number { self.new.current.number ≡ self.old.current.number }
         ensures waits { Waits Stage.Exchange self.new }
+        ensures prompt { IsPrompt self.old → IsPrompt self.new }
+        ensures server { KeepsServer self.old self.new }
         ensures reached { (steps : List Step) → Reached steps self.old
             → Reached (steps ++ happened self.old.current.link (took (take n (back_pending_of self.old))) ∷ []) self.new }
     {

@@ -2,6 +2,7 @@
 #![tactic(auto)]
 
 mod conn;
+mod event;
 mod exchange;
 mod heads;
 mod notes;
@@ -11,11 +12,14 @@ mod passing;
 mod pins;
 mod relay;
 mod replies;
+mod step;
 #[cfg(test)]
 mod tests;
 mod walks;
 mod wants;
 
 pub use conn::Conn;
+pub use event::{BackEvent, BackShape, ConnEvent, EventKind, EventShape, StateName};
 pub use parts::{Aim, Asked, Client, Current, Phase, Stage};
+pub use step::BUFFER_LIMIT;
 pub use wants::Want;

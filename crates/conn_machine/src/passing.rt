@@ -1,9 +1,10 @@
 //! The machine of one client connection: what its server gives, and how the exchange ends.
-ghost use Rattle.std.specs.Prelude.{◌≡◌, ◌≤◌, ◌++◌, ◌∷◌, [], List, ℕ, OnOk, length, drop};
+ghost use Rattle.std.specs.Prelude.{◌≡◌, ◌≤◌, ◌<◌, ◌++◌, ◌∷◌, [], List, ℕ, OnOk, OnErr, length, drop, vec_len, vec_capacity};
 ghost use Rattle.link_world.specs.Log.{gave, gave_end};
 ghost use Rattle.http_wire.specs.declared.message.Request.{Request as HttpRequest};
 ghost use Rattle.conversation.specs.Steps.{Step, happened, failed};
-ghost use Rattle.conn_machine.specs.Reached.{Reached, IsGoing, Waits};
+ghost use Rattle.conn_machine.specs.Prompt.{IsPrompt};
+ghost use Rattle.conn_machine.specs.Reached.{Reached, IsGoing, Waits, KeepsServer};
 ghost use Rattle.conn_machine.specs.Relays.{IsOutcome, IsVersion, heard_status, heard_cause, lost_cause};
 
 use crate::conn::Conn;
@@ -33,10 +34,13 @@ impl Conn {
     /// The link to the server gave bytes. Where it shows that there will be no reply the request is answered; where a
     /// reply that was begun can't be finished the connection ends.
     pub fn back_bytes(&mut self, alloc: Global, piece: &[u8]) -> Result<(), Memory>
-        requires { Waits Stage.Exchange self.old }
+        requires waits { Waits Stage.Exchange self.old }
+        requires room { vec_len self.old.notes < vec_capacity self.old.notes }
         ensures client { self.new.client ≡ self.old.client }
         ensures number { self.new.current.number ≡ self.old.current.number }
         ensures going { OnOk result (IsGoing self.new.phase) }
+        ensures prompt { OnOk result (IsPrompt self.new) }
+        ensures server { KeepsServer self.old self.new }
         ensures reached { (steps : List Step) → Reached steps self.old
             → Reached (steps ++ happened self.old.current.link (gave piece.now) ∷ []) self.new }
     {
@@ -46,10 +50,13 @@ impl Conn {
 
     /// The link to the server gave its end.
     pub fn back_end(&mut self, alloc: Global) -> Result<(), Memory>
-        requires { Waits Stage.Exchange self.old }
+        requires waits { Waits Stage.Exchange self.old }
+        requires room { vec_len self.old.notes < vec_capacity self.old.notes }
         ensures client { self.new.client ≡ self.old.client }
         ensures number { self.new.current.number ≡ self.old.current.number }
         ensures going { OnOk result (IsGoing self.new.phase) }
+        ensures prompt { OnOk result (IsPrompt self.new) }
+        ensures server { KeepsServer self.old self.new }
         ensures reached { (steps : List Step) → Reached steps self.old
             → Reached (steps ++ happened self.old.current.link gave_end ∷ []) self.new }
     {
@@ -59,10 +66,13 @@ impl Conn {
 
     /// The link to the server failed.
     pub fn back_failed(&mut self, alloc: Global) -> Result<(), Memory>
-        requires { Waits Stage.Exchange self.old }
+        requires waits { Waits Stage.Exchange self.old }
+        requires room { vec_len self.old.notes < vec_capacity self.old.notes }
         ensures client { self.new.client ≡ self.old.client }
         ensures number { self.new.current.number ≡ self.old.current.number }
         ensures going { OnOk result (IsGoing self.new.phase) }
+        ensures prompt { OnOk result (IsPrompt self.new) }
+        ensures server { KeepsServer self.old self.new }
         ensures reached { (steps : List Step) → Reached steps self.old
             → Reached (steps ++ failed self.old.current.link ∷ []) self.new }
     {
@@ -76,6 +86,9 @@ impl Conn {
         ensures client { self.new.client ≡ self.old.client }
         ensures number { self.new.current.number ≡ self.old.current.number }
         ensures waits { OnOk result (Waits Stage.Exchange self.new) }
+        ensures link { self.new.current.link ≡ self.old.current.link }
+        ensures notes { self.new.notes ≡ self.old.notes }
+        ensures broken { OnErr result (self.new.phase ≡ Phase.Broken) }
         ensures reached { (steps : List Step) → Reached steps self.old
             → Reached (steps ++ happened self.old.current.link (gave piece.now) ∷ []) self.new }
     {
@@ -101,6 +114,8 @@ impl Conn {
         ensures client { self.new.client ≡ self.old.client }
         ensures number { self.new.current.number ≡ self.old.current.number }
         ensures waits { Waits Stage.Exchange self.new }
+        ensures link { self.new.current.link ≡ self.old.current.link }
+        ensures notes { self.new.notes ≡ self.old.notes }
         ensures reached { (steps : List Step) → Reached steps self.old
             → Reached (steps ++ happened self.old.current.link gave_end ∷ []) self.new }
     {
@@ -114,6 +129,8 @@ impl Conn {
         ensures client { self.new.client ≡ self.old.client }
         ensures number { self.new.current.number ≡ self.old.current.number }
         ensures waits { Waits Stage.Exchange self.new }
+        ensures link { self.new.current.link ≡ self.old.current.link }
+        ensures notes { self.new.notes ≡ self.old.notes }
         ensures reached { (steps : List Step) → Reached steps self.old
             → Reached (steps ++ failed self.old.current.link ∷ []) self.new }
     {
@@ -124,17 +141,20 @@ impl Conn {
 
     // Where the exchange is over, its reply is whole, or cut, or made here.
     fn conclude(&mut self, alloc: Global) -> Result<(), Memory>
-        requires { Waits Stage.Exchange self.old }
+        requires waits { Waits Stage.Exchange self.old }
+        requires room { vec_len self.old.notes < vec_capacity self.old.notes }
         ensures client { self.new.client ≡ self.old.client }
         ensures number { self.new.current.number ≡ self.old.current.number }
         ensures going { OnOk result (IsGoing self.new.phase) }
+        ensures prompt { OnOk result (IsPrompt self.new) }
+        ensures server { KeepsServer self.old self.new }
         ensures reached { (steps : List Step) → Reached steps self.old → Reached steps self.new }
     {
         match outcome_of(&self.current.back) {
             Outcome::Going => Ok(()),
             Outcome::Whole => {
                 self.stage = Stage::Reply;
-                Ok(())
+                self.settle(alloc)
             }
             Outcome::Cut => {
                 self.phase = Phase::Over(EndCause::Cut {
@@ -153,6 +173,8 @@ impl Conn {
         ensures client { self.new.client ≡ self.old.client }
         ensures number { self.new.current.number ≡ self.old.current.number }
         ensures going { OnOk result (IsGoing self.new.phase) }
+        ensures prompt { OnOk result (IsPrompt self.new) }
+        ensures server { ¬ (Waits Stage.Exchange self.new) }
         ensures reached { (steps : List Step) → Reached steps self.old → Reached steps self.new }
     {
         let close = end_after(&self.current).is_some();

@@ -6,7 +6,8 @@ ghost use Rattle.conversation.specs.Steps.{Step, pinned};
 ghost use Rattle.conversation.specs.Asks.{query_bytes};
 ghost use Rattle.generation.specs.Meaning.{plan_of, aim_of};
 ghost use Rattle.conn_machine.specs.Parts.{end_by, refused_status, FindsRow, IsRoute, IsAim, issue_plan};
-ghost use Rattle.conn_machine.specs.Reached.{Reached, IsOpen, IsGoing, Waits};
+ghost use Rattle.conn_machine.specs.Prompt.{IsPrompt};
+ghost use Rattle.conn_machine.specs.Reached.{Reached, HasMemory, IsOpen, IsGoing, Waits, KeepsServer};
 
 use crate::conn::Conn;
 use crate::own::own_text;
@@ -39,7 +40,9 @@ impl Conn {
         requires rises { self.old.current.number ≤ (plan_of (arc_value issue)).number }
         ensures client { self.new.client ≡ self.old.client }
         ensures going { OnOk result (IsGoing self.new.phase) }
+        ensures prompt { OnOk result (IsPrompt self.new) }
         ensures number { self.new.current.number ≡ (plan_of (arc_value issue)).number }
+        ensures server { KeepsServer self.old self.new }
         ensures reached { (steps : List Step) → Reached steps self.old
             → Reached (steps ++ pinned (plan_of (arc_value issue)) ∷ []) self.new }
     {
@@ -73,7 +76,9 @@ impl Conn {
         requires { Waits Stage.Route self.old }
         ensures client { self.new.client ≡ self.old.client }
         ensures going { OnOk result (IsGoing self.new.phase) }
+        ensures prompt { OnOk result (IsPrompt self.new) }
         ensures number { self.new.current.number ≡ self.old.current.number }
+        ensures server { ¬ (Waits Stage.Exchange self.new) }
         ensures reached { (steps : List Step) → Reached steps self.old → Reached steps self.new }
     {
         self.phase = Phase::Broken;
@@ -207,6 +212,7 @@ fn aim_at(alloc: Global, target: &Target) -> Result<Aim, Memory>
 /// Why the connection ends after the reply to the current request.
 pub(crate) fn end_after(current: &Current) -> Option<EndCause>
     ensures end { result ≡ end_by current.now.index current.now.asked }
+    ensures memory { IfSome result HasMemory }
 {
     match &current.asked {
         Asked::Request(request) => {

@@ -1,8 +1,9 @@
 //! The machine of one client connection: how replies leave it, and the next request comes.
-ghost use Rattle.std.specs.Prelude.{◌≡◌, ◌≤◌, ◌<◌, ◌++◌, ◌∷◌, [], List, ℕ, length, take, drop, OnOk, IsTrue, vec_len, vec_capacity};
+ghost use Rattle.std.specs.Prelude.{◌≡◌, ◌≢◌, ◌≤◌, ◌<◌, ◌++◌, ◌∷◌, [], List, ℕ, length, take, drop, OnOk, IsTrue, vec_len, vec_capacity};
 ghost use Rattle.link_world.specs.Log.{took};
 ghost use Rattle.conversation.specs.Steps.{Step, happened};
-ghost use Rattle.conn_machine.specs.Reached.{Reached, IsOpen, IsGoing, Waits, WaitsOver, pending_of};
+ghost use Rattle.conn_machine.specs.Prompt.{IsPrompt};
+ghost use Rattle.conn_machine.specs.Reached.{Reached, IsOpen, IsGoing, Waits, KeepsServer, WaitsOver, pending_of};
 
 use crate::conn::Conn;
 use crate::notes::request_note;
@@ -30,7 +31,10 @@ impl Conn {
         requires some { n ≤ length (pending_of self.old) }
         requires room { vec_len self.old.notes < vec_capacity self.old.notes }
         ensures client { self.new.client ≡ self.old.client }
+        ensures number { self.new.current.number ≡ self.old.current.number }
         ensures going { OnOk result (IsGoing self.new.phase) }
+        ensures prompt { IsPrompt self.old → OnOk result (IsPrompt self.new) }
+        ensures server { KeepsServer self.old self.new }
         ensures reached { (steps : List Step) → Reached steps self.old
             → Reached (steps ++ happened self.old.client.link (took (take n (pending_of self.old))) ∷ []) self.new }
     {
@@ -42,8 +46,11 @@ impl Conn {
         requires open { IsOpen self.old }
         requires some { n ≤ length (pending_of self.old) }
         ensures client { self.new.client ≡ self.old.client }
+        ensures current { self.new.current ≡ self.old.current }
         ensures open { IsOpen self.new }
         ensures notes { self.new.notes ≡ self.old.notes }
+        ensures stage { self.new.stage ≡ self.old.stage }
+        ensures prompt { IsPrompt self.old → self.new.stage ≢ Stage.Reply → IsPrompt self.new }
         ensures reached { (steps : List Step) → Reached steps self.old
             → Reached (steps ++ happened self.old.client.link (took (take n (pending_of self.old))) ∷ []) self.new }
     {
@@ -51,14 +58,20 @@ impl Conn {
     }
 
     // Where a reply was taken whole, the request leaves, and the next one is looked for.
-    fn settle(&mut self, alloc: Global) -> Result<(), Memory>
+    pub(crate) fn settle(&mut self, alloc: Global) -> Result<(), Memory>
         requires open { IsOpen self.old }
         requires room { vec_len self.old.notes < vec_capacity self.old.notes }
         ensures client { self.new.client ≡ self.old.client }
+        ensures number { self.new.current.number ≡ self.old.current.number }
         ensures going { OnOk result (IsGoing self.new.phase) }
+        ensures prompt { (self.old.stage ≢ Stage.Reply → IsPrompt self.old) → OnOk result (IsPrompt self.new) }
+        ensures server { KeepsServer self.old self.new }
         ensures reached { (steps : List Step) → Reached steps self.old → Reached steps self.new }
     {
-        if !matches!(self.stage, Stage::Reply) || self.sent < self.out.len() {
+        if !matches!(self.stage, Stage::Reply) {
+            return Ok(());
+        }
+        if self.sent < self.out.len() {
             return Ok(());
         }
         self.finish(alloc);
@@ -74,6 +87,8 @@ impl Conn {
         requires sent { pending_of self.old ≡ [] }
         requires room { vec_len self.old.notes < vec_capacity self.old.notes }
         ensures client { self.new.client ≡ self.old.client }
+        ensures number { self.new.current.number ≡ self.old.current.number }
+        ensures going { IsGoing self.new.phase }
         ensures waits { WaitsOver Stage.Head self.new }
         ensures reached { (steps : List Step) → Reached steps self.old → Reached steps self.new }
     {

@@ -1,7 +1,8 @@
 //! The machine of one client connection: how a request gets its server.
 ghost use Rattle.std.specs.Prelude.{◌≡◌, ◌<◌, ◌++◌, ◌∷◌, [], List, ℕ, OnOk, IfSome, vec_len, vec_capacity};
 ghost use Rattle.conversation.specs.Steps.{Step, looked, drew, spent};
-ghost use Rattle.conn_machine.specs.Reached.{Reached, IsGoing, Waits, WaitsIn, WantsNode};
+ghost use Rattle.conn_machine.specs.Prompt.{IsPrompt};
+ghost use Rattle.conn_machine.specs.Reached.{Reached, IsGoing, Waits, KeepsServer, WaitsIn, WantsNode};
 
 use crate::conn::Conn;
 use crate::own::own_text;
@@ -27,6 +28,8 @@ impl Conn {
         ensures client { self.new.client ≡ self.old.client }
         ensures number { self.new.current.number ≡ self.old.current.number }
         ensures going { OnOk result (IsGoing self.new.phase) }
+        ensures prompt { OnOk result (IsPrompt self.new) }
+        ensures server { KeepsServer self.old self.new }
         ensures reached { (steps : List Step) → Reached steps self.old → Reached (steps ++ looked look ∷ []) self.new }
     {
         self.note_look(look);
@@ -59,6 +62,8 @@ impl Conn {
         ensures client { self.new.client ≡ self.old.client }
         ensures number { self.new.current.number ≡ self.old.current.number }
         ensures going { OnOk result (IsGoing self.new.phase) }
+        ensures prompt { OnOk result (IsPrompt self.new) }
+        ensures server { ¬ (Waits Stage.Exchange self.new) }
         ensures reached { (steps : List Step) → Reached steps self.old → Reached steps self.new }
     {
         let close = end_after(&self.current).is_some();
@@ -95,6 +100,8 @@ impl Conn {
         ensures client { self.new.client ≡ self.old.client }
         ensures number { self.new.current.number ≡ self.old.current.number }
         ensures going { OnOk result (IsGoing self.new.phase) }
+        ensures prompt { OnOk result (IsPrompt self.new) }
+        ensures server { KeepsServer self.old self.new }
         ensures reached { (steps : List Step) → Reached steps self.old → Reached (steps ++ spent node ∷ []) self.new }
     {
         self.note_spent(node);
@@ -119,6 +126,8 @@ impl Conn {
         ensures client { self.new.client ≡ self.old.client }
         ensures number { self.new.current.number ≡ self.old.current.number }
         ensures going { OnOk result (IsGoing self.new.phase) }
+        ensures prompt { OnOk result (IsPrompt self.new) }
+        ensures server { ¬ (Waits Stage.Exchange self.new) }
         ensures reached { (steps : List Step) → Reached steps self.old → Reached steps self.new }
     {
         let close = end_after(&self.current).is_some();

@@ -1,18 +1,30 @@
 //! A small configuration.
-ghost use Rattle.std.specs.Prelude.{◌≡◌, ◌∷◌, [], true, IfOk};
+ghost use Rattle.std.specs.Prelude.{◌≡◌, ◌∷◌, [], true, IfOk, IfSome};
+ghost use Rattle.generation.specs.Meaning.{plan_of};
 ghost use Rattle.dyn_config.specs.Kept.{is_service};
 
 use crate::building::{Built, build_generation};
+use crate::generation::Generation;
 use dyn_config::{BalancerDef, Entry, Merged, RouterDef, ServerDef, ServiceDef};
 use px_base::{Bytes, List, Memory};
 use rule_eval::RegexShop;
 use std::alloc::Global;
 
 /// The configuration of one router, `web@file`, with this rule, on all entry points, and of one service, whose one server is
-/// under this URL. For tests, which need no file.
-pub fn one_router(alloc: Global, number: u64, rule: &[u8], url: &[u8]) -> Result<Built, Memory> {
+/// under this URL. For tests, which need no file. None where the URL is none of `http`.
+pub fn one_router(
+    alloc: Global,
+    number: u64,
+    rule: &[u8],
+    url: &[u8],
+) -> Result<Option<Generation>, Memory>
+    ensures { IfOk result (λ g. IfSome g (λ g. (plan_of g).number ≡ number)) }
+{
     let merged = merged_of(alloc, router_of(alloc, rule)?, service_of(alloc, url)?)?;
-    build_generation(alloc, number, &merged, &mut RegexShop::new(alloc))
+    match build_generation(alloc, number, &merged, &mut RegexShop::new(alloc))? {
+        Built::Generation(generation) => Ok(Some(generation)),
+        Built::Later => Ok(None),
+    }
 }
 
 fn merged_of(alloc: Global, router: RouterDef, service: ServiceDef) -> Result<Merged, Memory>

@@ -1,5 +1,5 @@
 //! Which router a request goes to, and where it leads.
-use crate::{Built, Generation, one_router};
+use crate::{Generation, one_router};
 use head_view::{EMPTY_HEADER_SPAN, Scan, scan_request, view};
 use ip_net::Ip;
 use std::alloc::Global;
@@ -23,10 +23,10 @@ fn winner_for(
     }
 }
 
-fn built(alloc: Global, rule: &[u8], url: &[u8]) -> Result<Generation, Fail> {
-    match one_router(alloc, 7, rule, url)? {
-        Built::Generation(generation) => Ok(generation),
-        Built::Later => Err(Fail::from("not served")),
+fn built(alloc: Global, rule: &[u8]) -> Result<Generation, Fail> {
+    match one_router(alloc, 7, rule, b"http://127.0.0.1:9000")? {
+        Some(generation) => Ok(generation),
+        None => Err(Fail::from("not served")),
     }
 }
 
@@ -34,7 +34,7 @@ fn built(alloc: Global, rule: &[u8], url: &[u8]) -> Result<Generation, Fail> {
 fn winners(rt: HostRuntime) -> Result<(), Fail> {
     let alloc = rt.alloc();
     let rule = b"PathPrefix(`/a`) && Header(`X`, `1`) && Header(`Connection`, `x`)";
-    let generation = built(alloc, rule, b"http://127.0.0.1:9000")?;
+    let generation = built(alloc, rule)?;
     assert_eq!(rt; generation.number(), 7);
     let rows = [
         winner_for(alloc, &generation, b"a.test", b"/a")?,
@@ -51,7 +51,7 @@ fn winners(rt: HostRuntime) -> Result<(), Fail> {
 fn later(rt: HostRuntime) -> Result<(), Fail> {
     let alloc = rt.alloc();
     let https = one_router(alloc, 1, b"Path(`/`)", b"https://a.test")?;
-    assert!(rt; matches!(https, Built::Later));
+    assert!(rt; https.is_none());
     let empty = Generation::empty(alloc, 3)?;
     assert_eq!(rt; winner_for(alloc, &empty, b"a.test", b"/a")?, None);
     Ok(())

@@ -6,9 +6,9 @@ use Rattle.conn_machine.proofs.conn.Conn.answer_spent.Goals as goal
 
 pub returns-clause-reached : goal.returns-clause-reached
 returns-clause-reached c = λ steps r.
-    reached_open _ refl (opened_refusal c.args.node c.is_some-close.result c.in_ok-own_text.ensures.0
+    reached_open _ refl (opened_refusal c.args.node c.is_some-close.result c.in_ok-own_text.ensures.text.0
     (record { asked = refl; size = refl; issue = refl; pinned = refl; index = refl; number = refl }) refl refl refl
-    (c.in_ok-own_text.ensures.2 ∙ ap (λ (l : List ℕ). l ++ c.in_ok-own_text.ensures.0) c.clear.ensures.items)
+    (c.in_ok-own_text.ensures.text.2 ∙ ap (λ (l : List ℕ). l ++ c.in_ok-own_text.ensures.text.0) c.clear.ensures.items)
     c.requires.node
-    (c.is_some-close.ensures ∙ ap is_some c.end_after.ensures.end) c.in_ok-own_text.ensures.1
+    (c.is_some-close.ensures ∙ ap is_some c.end_after.ensures.end) c.in_ok-own_text.ensures.text.1
     (opened_at c.requires.waits r))

@@ -1,0 +1,45 @@
+-- What an event tells.
+use Rattle.std.proofs.Common.{◌≡◌, ◌+◌, ◌≤◌, List, [], ◌∷◌, ◌++◌, ℕ, length, sym, ◌∙◌, ap, subst, vec_len}
+use Rattle.conversation.specs.Steps.{Step}
+use Rattle.conn_machine.specs.Events.{step_of, back_step_of, shape_of, IsEnabled, IsBackEnabled, ServerAfter}
+use Rattle.conn_machine.specs.Reached.{Reached, back_pending_of, pending_to, pending_of}
+use Rattle.conn_machine.specs.declared.event.ConnEvent.{ConnEvent}
+use Rattle.conn_machine.specs.declared.event.ConnEvent.TheVariants as event
+use Rattle.conn_machine.specs.declared.event.BackEvent.{BackEvent}
+use Rattle.conn_machine.specs.declared.event.EventShape.{EventShape}
+use Rattle.conn_machine.specs.declared.event.EventShape.TheVariants as shape
+use Rattle.conn_machine.specs.declared.parts.Current.{Current}
+use Rattle.conn_machine.specs.declared.conn.Conn.{Conn}
+
+-- the same of an equal event
+pub event_told : (c d : Conn) (steps : List Step) {e : ConnEvent} (v : ConnEvent) → e ≡ v → Reached (steps ++ step_of c v ∷ []) d → Reached (steps ++ step_of c e ∷ []) d
+event_told c d steps v is r = subst (λ (x : ConnEvent). Reached (steps ++ step_of c x ∷ []) d) (sym is) r
+
+pub event_server : (c d : Conn) {e : ConnEvent} (v : ConnEvent) → e ≡ v → ServerAfter v c d → ServerAfter e c d
+event_server c d v is s = subst (λ (x : ConnEvent). ServerAfter x c d) (sym is) s
+
+pub back_told : (d : Conn) (steps : List Step) (link : ℕ) (pending : List ℕ) {e : BackEvent} (v : BackEvent) → e ≡ v
+    → Reached (steps ++ back_step_of link pending v ∷ []) d → Reached (steps ++ back_step_of link pending e ∷ []) d
+back_told d steps link pending v is r = subst (λ (x : BackEvent). Reached (steps ++ back_step_of link pending x ∷ []) d) (sym is) r
+
+-- an event of the server is on its link
+pub server_told : (c d : Conn) (steps : List Step) {e : ConnEvent} (link : ℕ) (v : BackEvent) → e ≡ event.Back link v → IsEnabled (shape_of e) c
+    → Reached (steps ++ back_step_of c.current.link (back_pending_of c) v ∷ []) d → Reached (steps ++ step_of c e ∷ []) d
+server_told c d steps {e} link v is on r =
+    let at : IsEnabled (shape_of (event.Back link v)) c = subst (λ (x : ConnEvent). IsEnabled (shape_of x) c) is on in
+    event_told c d steps (event.Back link v) is (subst (λ (n : ℕ). Reached (steps ++ back_step_of n (back_pending_of c) v ∷ []) d) (sym at.1) r)
+
+-- what may come still may, where room was made
+pub still_enabled : (c d : Conn) → d.phase ≡ c.phase → d.stage ≡ c.stage → d.over ≡ c.over → d.current ≡ c.current → pending_of d ≡ pending_of c → vec_len d.input ≡ vec_len c.input
+    → (s : EventShape) → IsEnabled s c → IsEnabled s d
+still_enabled c d p s o m n i (shape.Bytes k) on = (p ∙ on.0, o ∙ on.1, on.2, subst (λ (l : ℕ). l + k ≤ 32768) (sym i) on.3)
+still_enabled c d p s o m n i shape.End on = (p ∙ on.0, o ∙ on.1)
+still_enabled c d p s o m n i shape.Failed on = p ∙ on
+still_enabled c d p s o m n i shape.Pinned on = record { phase = p ∙ on.phase; stage = s ∙ on.stage }
+still_enabled c d p s o m n i shape.Looked on = record { phase = p ∙ on.phase; stage = s ∙ on.stage }
+still_enabled c d p s o m n i shape.Drew on = record { phase = p ∙ on.phase; stage = s ∙ on.stage }
+still_enabled c d p s o m n i shape.Dialled on = record { phase = p ∙ on.phase; stage = s ∙ on.stage }
+still_enabled c d p s o m n i (shape.Back link e) on =
+    (record { phase = p ∙ on.0.phase; stage = s ∙ on.0.stage }, on.1 ∙ sym (ap (λ (x : Current). x.link) m), subst (λ (l : List ℕ). IsBackEnabled e l) (sym (ap (λ (x : Current). pending_to x.back) m)) on.2)
+still_enabled c d p s o m n i (shape.Took k) on = (p ∙ on.0, on.1, subst (λ (l : List ℕ). k ≤ length l) (sym n) on.2)
+still_enabled c d p s o m n i shape.Stop on = p ∙ on
