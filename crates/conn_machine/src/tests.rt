@@ -1,10 +1,8 @@
 //! Connections, as lists of events.
 use crate::{BackEvent, Conn, ConnEvent};
-use generation::{Generation, Route, Target};
+use generation::{Generation, one_router};
 use ip_net::Ip;
 use link_world::{Look, NodePick, note_text};
-use px_base::{Bytes, List};
-use rule_lang::{Leaf, Matcher};
 use std::alloc::Global;
 use std::process::Abort;
 use std::sync::Arc;
@@ -57,6 +55,16 @@ fn configuration(memory: Global) -> Result<Arc<Generation, Global>, Fail> {
         target,
     })?;
     Ok(Arc::new(memory, Generation::new(1, routes))?)
+fn empty(alloc: Global) -> Result<Arc<Generation, Global>, Fail> {
+    Ok(Arc::new(alloc, Generation::empty(alloc, 1)?)?)
+}
+
+// A configuration with one router, which takes every path and leads to one server.
+fn configuration(alloc: Global) -> Result<Arc<Generation, Global>, Fail> {
+    match one_router(alloc, 1, b"PathPrefix(`/`)", b"http://127.0.0.1:9000")? {
+        Some(generation) => Ok(Arc::new(alloc, generation)?),
+        None => Err(Fail::from("not served")),
+    }
 }
 
 fn event_of(
