@@ -1,10 +1,10 @@
 -- The host and the port of a server, and the text that spells them.
-use Rattle.std.proofs.Common.{◌≡◌, ◌≢◌, ℕ, ◌⊎◌, inl, inr, List, [], ◌∷◌, ◌++◌, get_or, All, Option, Some, None, MatchOption, Bor, refl, sym, ap, ◌∙◌, subst, IsTrue, codes, append_assoc, append-nil, arith, length, take, drop, ◌+◌, ◌-◌, ◌≤◌, false}
+use Rattle.std.proofs.Common.{◌≡◌, ◌≢◌, ℕ, inl, inr, List, [], ◌∷◌, ◌++◌, get_or, All, refl, sym, ap, ◌∙◌, subst, IsTrue, codes, append_assoc, append-nil, arith, length, take, drop, ◌+◌, ◌-◌, ◌≤◌, false}
 use Rattle.std.proofs.lemmas.List.{append_cancel_left, length-append, take-append-le, take_all}
 use Rattle.std.proofs.lemmas.Bool.{false≢true}
 use Rattle.std.proofs.lemmas.List.Elements.{All-head, All-tail, All-cons}
 use Rattle.px_base.proofs.Cuts.{cut_same, cut_none}
-use Rattle.service_graph.specs.Urls.{IsHost, IsNameHost, IsInBrackets, IsIpv6, IsPort, IsPortPart, IsAuthority, IsServerUrl, authority_text, has_other_scheme, is_host_byte}
+use Rattle.service_graph.specs.Urls.{IsHost, IsNameHost, IsIpv6, IsPort, IsPortPart, IsAuthority, IsServerUrl, authority_text, has_other_scheme, is_host_byte}
 
 -- the byte is no colon
 abbrev pub NoColon : ℕ → Type 0
@@ -139,11 +139,13 @@ address_host text rest inner after e cut =
 -- a URL of `http` whose authority names no server
 pub http_only : (url rest authority : List ℕ) → url ≡ codes "http://" ++ rest → authority ≡ authority_text rest → ((host : List ℕ) (port : ℕ) → ¬ (IsAuthority authority host port))
     → (has_other_scheme url ≡ false) × ((host : List ℕ) (port : ℕ) → ¬ (IsServerUrl url host port))
-http_only url rest authority e is never =
-    (ap has_other_scheme e, λ host port u.
-        let same : u.0 ≡ rest = append_cancel_left (codes "http://") u.0 rest (sym u.1 ∙ e) in
-        let P : List ℕ → Type 0 = λ t. IsAuthority t host port in
-        never host port (subst P (ap authority_text same ∙ sym is) u.2))
+http_only url rest authority e is never = (
+  ap has_other_scheme e,
+  λ host port u.
+      let same : u.0 ≡ rest = append_cancel_left (codes "http://") u.0 rest (sym u.1 ∙ e) in
+      let P : List ℕ → Type 0 = λ t. IsAuthority t host port in
+      never host port (subst P (ap authority_text same ∙ sym is) u.2),
+)
 
 length_behind : (text rest : List ℕ) → text ≡ 91 ∷ rest → length rest ≤ length text - 1
 length_behind text rest e = omega (arith, ap length e)

@@ -1,5 +1,5 @@
 -- The one server of a service.
-use Rattle.std.proofs.Common.{◌≡◌, ℕ, ◌<◌, ◌≤◌, List, [], ◌∷◌, length, get_or, Option, Some, None, MatchOption, refl, sym, ap, ◌∙◌, subst, arith, All, Bool, IsTrue, ◌↔◌}
+use Rattle.std.proofs.Common.{◌≡◌, ℕ, ◌<◌, ◌≤◌, List, [], ◌∷◌, length, get_or, Option, Some, None, MatchOption, sym, ap, ◌∙◌, subst, arith, All, Bool, IsTrue, ◌↔◌}
 use Rattle.px_base.specs.declared.server.Server.{Server}
 use Rattle.dyn_config.specs.declared.service.ServerDef.{ServerDef}
 use Rattle.dyn_config.specs.declared.service.BalancerDef.{BalancerDef}

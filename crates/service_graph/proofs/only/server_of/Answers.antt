@@ -1,5 +1,5 @@
-use Rattle.std.proofs.Common.{subst, List, ℕ, sym}
-use Rattle.service_graph.specs.Urls.{IsServerUrl, IsUrlFault}
+use Rattle.std.proofs.Common.{subst, List, ℕ}
+use Rattle.service_graph.specs.Urls.{IsUrlFault}
 use Rattle.service_graph.proofs.Services.{no_url}
 use Rattle.service_graph.proofs.only.server_of.Goals as goal
 
