@@ -30,31 +30,6 @@ enum Act {
 }
 
 // A configuration without routers.
-fn empty(memory: Global) -> Result<Arc<Generation, Global>, Fail> {
-    Ok(Arc::new(memory, Generation::new(1, List::new(memory)))?)
-}
-
-// A configuration with one router, which takes every path and leads to one server.
-fn configuration(memory: Global) -> Result<Arc<Generation, Global>, Fail> {
-    let target = Target {
-        node: 0,
-        host: Bytes::from_slice(memory, b"127.0.0.1")?,
-        port: 9000,
-        pass_host: true,
-    };
-    let rule = Leaf {
-        matcher: Matcher::PathPrefix,
-        value: Bytes::from_slice(memory, b"/")?,
-    };
-    let mut routes = List::new(memory);
-    routes.push(Route {
-        row: 0,
-        name: Bytes::from_slice(memory, b"r@file")?,
-        rule,
-        priority: 15,
-        target,
-    })?;
-    Ok(Arc::new(memory, Generation::new(1, routes))?)
 fn empty(alloc: Global) -> Result<Arc<Generation, Global>, Fail> {
     Ok(Arc::new(alloc, Generation::empty(alloc, 1)?)?)
 }
@@ -69,7 +44,7 @@ fn configuration(alloc: Global) -> Result<Arc<Generation, Global>, Fail> {
 
 fn event_of(
     rt: &impl Abort,
-    memory: Global,
+    alloc: Global,
     conn: &Conn,
     act: Act,
 ) -> Result<ConnEvent<'static>, Fail> {
@@ -77,8 +52,8 @@ fn event_of(
         Act::Gives(piece) => ConnEvent::Bytes(piece),
         Act::Ends => ConnEvent::End,
         Act::Fails => ConnEvent::Failed,
-        Act::Pins => ConnEvent::Pinned(configuration(memory)?),
-        Act::PinsNone => ConnEvent::Pinned(empty(memory)?),
+        Act::Pins => ConnEvent::Pinned(configuration(alloc)?),
+        Act::PinsNone => ConnEvent::Pinned(empty(alloc)?),
         Act::Looks(mask) => ConnEvent::Looked(Look { node: 0, mask }),
         Act::Draws => ConnEvent::Drew(NodePick {
             node: 0,
@@ -108,30 +83,30 @@ fn of_server(event: BackEvent<'static>) -> ConnEvent<'static> {
     ConnEvent::Back { link: 1, event }
 }
 
-fn play(rt: &impl Abort, memory: Global, conn: &mut Conn, act: Act) -> Result<(), Fail> {
-    let event = event_of(rt, memory, conn, act)?;
+fn play(rt: &impl Abort, alloc: Global, conn: &mut Conn, act: Act) -> Result<(), Fail> {
+    let event = event_of(rt, alloc, conn, act)?;
     conn.reserve(event.bytes_added())?;
     let comes = conn.enabled(event.shape()) && conn.asked(&event);
     assert!(rt; comes);
     if comes {
-        conn.step(memory, event)?;
+        conn.step(alloc, event)?;
     }
     Ok(())
 }
 
-fn play_all(rt: &impl Abort, memory: Global, conn: &mut Conn, acts: &[Act]) -> Result<(), Fail> {
+fn play_all(rt: &impl Abort, alloc: Global, conn: &mut Conn, acts: &[Act]) -> Result<(), Fail> {
     for act in acts {
-        play(rt, memory, conn, *act)?;
+        play(rt, alloc, conn, *act)?;
     }
     Ok(())
 }
 
 // What is left to note, as text.
-fn notes_of(memory: Global, conn: &mut Conn) -> Result<Vec<u8>, Fail> {
-    let mut text = Vec::new(memory);
+fn notes_of(alloc: Global, conn: &mut Conn) -> Result<Vec<u8>, Fail> {
+    let mut text = Vec::new(alloc);
     for _ in 0..8u32 {
-        if let Some(note) = conn.take_note(memory) {
-            note_text(memory, &note, &mut text)?;
+        if let Some(note) = conn.take_note(alloc) {
+            note_text(alloc, &note, &mut text)?;
         }
     }
     Ok(text)
@@ -140,17 +115,17 @@ fn notes_of(memory: Global, conn: &mut Conn) -> Result<Vec<u8>, Fail> {
 // These things happen, in three parts, and the connection notes this text.
 fn run(
     rt: &impl Abort,
-    memory: Global,
+    alloc: Global,
     first: &[Act],
     then: &[Act],
     last: &[Act],
     text: &[u8],
 ) -> Result<(), Fail> {
-    let mut conn = Conn::new(memory, 0, b"web", Ip::V4(2_130_706_433))?;
-    play_all(rt, memory, &mut conn, first)?;
-    play_all(rt, memory, &mut conn, then)?;
-    play_all(rt, memory, &mut conn, last)?;
-    let notes = notes_of(memory, &mut conn)?;
+    let mut conn = Conn::new(alloc, 0, b"web", Ip::V4(2_130_706_433))?;
+    play_all(rt, alloc, &mut conn, first)?;
+    play_all(rt, alloc, &mut conn, then)?;
+    play_all(rt, alloc, &mut conn, last)?;
+    let notes = notes_of(alloc, &mut conn)?;
     assert_eq!(rt; notes.as_slice(), text);
     Ok(())
 }
@@ -190,17 +165,17 @@ const BAD_GATEWAY: [Act; 2] = [
 ];
 
 // A request that no router takes, cut at this place.
-fn not_found(rt: &impl Abort, memory: Global, at: usize) -> Result<(), Fail> {
+fn not_found(rt: &impl Abort, alloc: Global, at: usize) -> Result<(), Fail> {
     let request = b"GET / HTTP/1.1\r\nHost: a.test\r\n\r\n".as_slice();
     let (front, back) = request.split_at(at.min(request.len()));
     let acts = [Act::Gives(front), Act::Gives(back), Act::PinsNone];
     let text =
         b"note 0 1 gen 1 router - status 404 NoRouter looks - picks - turns - backs -\nnote 0 end Client\n";
-    run(rt, memory, &acts, &NOT_FOUND, &[], text)
+    run(rt, alloc, &acts, &NOT_FOUND, &[], text)
 }
 
 // The server gives its reply in two pieces, cut at this place.
-fn passed(rt: &impl Abort, memory: Global, at: usize) -> Result<(), Fail> {
+fn passed(rt: &impl Abort, alloc: Global, at: usize) -> Result<(), Fail> {
     let reply = b"HTTP/1.1 200 OK\r\nContent-Length: 2\r\n\r\nok".as_slice();
     let (front, back) = reply.split_at(at.min(reply.len()));
     let acts = [Act::ServerGives(front), Act::ServerGives(back)];
@@ -208,7 +183,7 @@ fn passed(rt: &impl Abort, memory: Global, at: usize) -> Result<(), Fail> {
         b"note 0 1 gen 1 router 0 status 200 Passed looks 0:1 picks 0:0-1:0 turns - backs 1\nnote 0 end Client\n";
     run(
         rt,
-        memory,
+        alloc,
         &SENT,
         &acts,
         &[Act::Takes(reply), Act::Ends],
@@ -217,7 +192,7 @@ fn passed(rt: &impl Abort, memory: Global, at: usize) -> Result<(), Fail> {
 }
 
 // Two requests in one piece: the second is answered after the first.
-fn two(rt: &impl Abort, memory: Global) -> Result<(), Fail> {
+fn two(rt: &impl Abort, alloc: Global) -> Result<(), Fail> {
     let acts = [
         Act::Gives(b"GET / HTTP/1.1\r\nHost: a.test\r\n\r\nGET / HTTP/1.1\r\nHost: a.test\r\n\r\n"),
         Act::PinsNone,
@@ -226,11 +201,11 @@ fn two(rt: &impl Abort, memory: Global) -> Result<(), Fail> {
     ];
     let text =
         b"note 0 1 gen 1 router - status 404 NoRouter looks - picks - turns - backs -\nnote 0 2 gen 1 router - status 404 NoRouter looks - picks - turns - backs -\nnote 0 end Client\n";
-    run(rt, memory, &acts, &NOT_FOUND, &[], text)
+    run(rt, alloc, &acts, &NOT_FOUND, &[], text)
 }
 
 // Bytes that no head begins with.
-fn refused(rt: &impl Abort, memory: Global) -> Result<(), Fail> {
+fn refused(rt: &impl Abort, alloc: Global) -> Result<(), Fail> {
     let acts = [
         Act::Gives(b"\x00"),
         Act::Pins,
@@ -240,16 +215,16 @@ fn refused(rt: &impl Abort, memory: Global) -> Result<(), Fail> {
     ];
     let text =
         b"note 0 1 gen 1 router - status 400 BadHead looks - picks - turns - backs -\nnote 0 end Refused\n";
-    run(rt, memory, &acts, &[], &[], text)
+    run(rt, alloc, &acts, &[], &[], text)
 }
 
 // The server is down.
-fn down(rt: &impl Abort, memory: Global) -> Result<(), Fail> {
+fn down(rt: &impl Abort, alloc: Global) -> Result<(), Fail> {
     let text =
         b"note 0 1 gen 1 router 0 status 503 NoChild looks 0:0 picks - turns - backs -\nnote 0 end Client\n";
     run(
         rt,
-        memory,
+        alloc,
         &[SENT[0], Act::Pins],
         &[Act::Looks(0)],
         &UNAVAILABLE,
@@ -258,54 +233,54 @@ fn down(rt: &impl Abort, memory: Global) -> Result<(), Fail> {
 }
 
 // The client's link fails during an exchange, or a stop is asked for before a request.
-fn broken_off(rt: &impl Abort, memory: Global) -> Result<(), Fail> {
+fn broken_off(rt: &impl Abort, alloc: Global) -> Result<(), Fail> {
     let text =
         b"note 0 1 gen 1 router 0 status 0 Undecided looks 0:1 picks 0:0-1:0 turns - backs 1\nnote 0 end ClientFailed\n";
-    run(rt, memory, &SENT, &[Act::Fails], &[], text)?;
-    run(rt, memory, &[Act::Stops], &[], &[], b"note 0 end Stopped\n")
+    run(rt, alloc, &SENT, &[Act::Fails], &[], text)?;
+    run(rt, alloc, &[Act::Stops], &[], &[], b"note 0 end Stopped\n")
 }
 
 // The link fails, gives what is no reply, or ends inside a head.
-fn lost(rt: &impl Abort, memory: Global) -> Result<(), Fail> {
+fn lost(rt: &impl Abort, alloc: Global) -> Result<(), Fail> {
     let failed =
         b"note 0 1 gen 1 router 0 status 502 BackFailed 1 looks 0:1 picks 0:0-1:0 turns - backs 1\nnote 0 end Client\n".as_slice();
     let bad =
         b"note 0 1 gen 1 router 0 status 502 BackBad 1 looks 0:1 picks 0:0-1:0 turns - backs 1\nnote 0 end Client\n".as_slice();
-    run(rt, memory, &SENT, &[Act::ServerFails], &BAD_GATEWAY, failed)?;
+    run(rt, alloc, &SENT, &[Act::ServerFails], &BAD_GATEWAY, failed)?;
     run(
         rt,
-        memory,
+        alloc,
         &SENT,
         &[Act::ServerGives(b"\x00")],
         &BAD_GATEWAY,
         bad,
     )?;
     let acts = [Act::ServerGives(b"HTTP/1.1 200 OK\r\n"), Act::ServerEnds];
-    run(rt, memory, &SENT, &acts, &BAD_GATEWAY, bad)
+    run(rt, alloc, &SENT, &acts, &BAD_GATEWAY, bad)
 }
 
 // The link ends inside the content of its reply.
-fn cut(rt: &impl Abort, memory: Global) -> Result<(), Fail> {
+fn cut(rt: &impl Abort, alloc: Global) -> Result<(), Fail> {
     let piece = b"HTTP/1.1 200 OK\r\nContent-Length: 2\r\n\r\no";
     let acts = [Act::ServerGives(piece), Act::Takes(piece), Act::ServerEnds];
     let text =
         b"note 0 1 gen 1 router 0 status 200 Passed looks 0:1 picks 0:0-1:0 turns - backs 1\nnote 0 end Cut 1\n";
-    run(rt, memory, &SENT, &acts, &[], text)
+    run(rt, alloc, &SENT, &acts, &[], text)
 }
 
 #[test]
 fn connections(rt: HostRuntime) -> Result<(), Fail> {
-    let memory = rt.alloc();
+    let alloc = rt.alloc();
     for at in 1..32u32 {
-        not_found(&rt, memory, at as usize)?;
+        not_found(&rt, alloc, at as usize)?;
     }
     for at in 1..40u32 {
-        passed(&rt, memory, at as usize)?;
+        passed(&rt, alloc, at as usize)?;
     }
-    two(&rt, memory)?;
-    refused(&rt, memory)?;
-    down(&rt, memory)?;
-    broken_off(&rt, memory)?;
-    lost(&rt, memory)?;
-    cut(&rt, memory)
+    two(&rt, alloc)?;
+    refused(&rt, alloc)?;
+    down(&rt, alloc)?;
+    broken_off(&rt, alloc)?;
+    lost(&rt, alloc)?;
+    cut(&rt, alloc)
 }
