@@ -2,7 +2,7 @@
 use crate::{BackEvent, Conn, ConnEvent};
 use generation::{Generation, Route, Target};
 use ip_net::Ip;
-use link_world::{Look, NodePick, note_text};
+use link_world::{Look, NodePick, Note, note_text};
 use px_base::{Bytes, List};
 use rule_lang::{Leaf, Matcher};
 use std::alloc::Global;
@@ -17,114 +17,122 @@ enum Act {
     Gives(&'static [u8]),
     Ends,
     Fails,
+    Takes(&'static [u8]),
     // A configuration with one router, or without.
     Pins,
     PinsNone,
     Looks(u64),
     Draws,
     Dials,
+    Server(BackEvent<'static>),
     ServerTakes(&'static [u8]),
-    ServerGives(&'static [u8]),
-    ServerEnds,
-    ServerFails,
-    Takes(&'static [u8]),
     Stops,
 }
 
 // A configuration without routers.
-fn empty(memory: Global) -> Result<Arc<Generation, Global>, Fail> {
-    Ok(Arc::new(memory, Generation::new(1, List::new(memory)))?)
+fn empty(alloc: Global) -> Result<Arc<Generation, Global>, Fail> {
+    Ok(Arc::new(alloc, Generation::new(1, List::new(alloc)))?)
 }
 
 // A configuration with one router, which takes every path and leads to one server.
-fn configuration(memory: Global) -> Result<Arc<Generation, Global>, Fail> {
+fn configuration(alloc: Global) -> Result<Arc<Generation, Global>, Fail> {
     let target = Target {
         node: 0,
-        host: Bytes::from_slice(memory, b"127.0.0.1")?,
+        host: Bytes::from_slice(alloc, b"127.0.0.1")?,
         port: 9000,
         pass_host: true,
     };
     let rule = Leaf {
         matcher: Matcher::PathPrefix,
-        value: Bytes::from_slice(memory, b"/")?,
+        value: Bytes::from_slice(alloc, b"/")?,
     };
-    let mut routes = List::new(memory);
+    let mut routes = List::new(alloc);
     routes.push(Route {
         row: 0,
-        name: Bytes::from_slice(memory, b"r@file")?,
+        name: Bytes::from_slice(alloc, b"r@file")?,
         rule,
         priority: 15,
         target,
     })?;
-    Ok(Arc::new(memory, Generation::new(1, routes))?)
+    Ok(Arc::new(alloc, Generation::new(1, routes))?)
 }
 
-fn event_of(
-    rt: &impl Abort,
-    memory: Global,
-    conn: &Conn,
-    act: Act,
-) -> Result<ConnEvent<'static>, Fail> {
-    Ok(match act {
-        Act::Gives(piece) => ConnEvent::Bytes(piece),
-        Act::Ends => ConnEvent::End,
-        Act::Fails => ConnEvent::Failed,
-        Act::Pins => ConnEvent::Pinned(configuration(memory)?),
-        Act::PinsNone => ConnEvent::Pinned(empty(memory)?),
-        Act::Looks(mask) => ConnEvent::Looked(Look { node: 0, mask }),
-        Act::Draws => ConnEvent::Drew(NodePick {
-            node: 0,
-            pick: Pick {
-                from: 0,
-                to: 1,
-                child: 0,
-            },
-        }),
-        Act::Dials => ConnEvent::Dialled { link: 1 },
-        Act::ServerTakes(text) => {
-            assert_eq!(rt; conn.back_pending(), text);
-            of_server(BackEvent::Took(text.len()))
-        }
-        Act::ServerGives(piece) => of_server(BackEvent::Bytes(piece)),
-        Act::ServerEnds => of_server(BackEvent::End),
-        Act::ServerFails => of_server(BackEvent::Failed),
-        Act::Takes(text) => {
-            assert_eq!(rt; conn.pending(), text);
-            ConnEvent::Took(text.len())
-        }
-        Act::Stops => ConnEvent::Stop,
-    })
+fn event_of(alloc: Global, act: Act) -> Result<ConnEvent<'static>, Fail> {
+    match act {
+        Act::Gives(piece) => Ok(ConnEvent::Bytes(piece)),
+        Act::Ends => Ok(ConnEvent::End),
+        Act::Fails => Ok(ConnEvent::Failed),
+        Act::Takes(text) => Ok(ConnEvent::Took(text.len())),
+        Act::Pins => Ok(ConnEvent::Pinned(configuration(alloc)?)),
+        Act::PinsNone => Ok(ConnEvent::Pinned(empty(alloc)?)),
+        Act::Looks(mask) => Ok(ConnEvent::Looked(Look { node: 0, mask })),
+        Act::Draws => Ok(ConnEvent::Drew(PICK)),
+        Act::Dials => Ok(ConnEvent::Dialled { link: 1 }),
+        Act::Server(event) => Ok(of_server(event)),
+        Act::ServerTakes(text) => Ok(of_server(BackEvent::Took(text.len()))),
+        Act::Stops => Ok(ConnEvent::Stop),
+    }
 }
+
+const PICK: NodePick = NodePick {
+    node: 0,
+    pick: Pick {
+        from: 0,
+        to: 1,
+        child: 0,
+    },
+};
 
 fn of_server(event: BackEvent<'static>) -> ConnEvent<'static> {
     ConnEvent::Back { link: 1, event }
 }
 
-fn play(rt: &impl Abort, memory: Global, conn: &mut Conn, act: Act) -> Result<(), Fail> {
-    let event = event_of(rt, memory, conn, act)?;
+// What is taken is all that is pending.
+fn expect_pending(rt: &impl Abort, conn: &Conn, act: Act) {
+    match act {
+        Act::Takes(text) => assert_eq!(rt; conn.pending(), text),
+        Act::ServerTakes(text) => assert_eq!(rt; conn.back_pending(), text),
+        _ => {}
+    }
+}
+
+fn play(rt: &impl Abort, alloc: Global, conn: &mut Conn, act: Act) -> Result<(), Fail> {
+    expect_pending(rt, conn, act);
+    let event = event_of(alloc, act)?;
     conn.reserve(event.bytes_added())?;
     let comes = conn.enabled(event.shape()) && conn.asked(&event);
     assert!(rt; comes);
     if comes {
-        conn.step(memory, event)?;
+        conn.step(alloc, event)?;
     }
     Ok(())
 }
 
-fn play_all(rt: &impl Abort, memory: Global, conn: &mut Conn, acts: &[Act]) -> Result<(), Fail> {
+fn play_all(rt: &impl Abort, alloc: Global, conn: &mut Conn, acts: &[Act]) -> Result<(), Fail> {
     for act in acts {
-        play(rt, memory, conn, *act)?;
+        play(rt, alloc, conn, *act)?;
     }
+    Ok(())
+}
+
+// Appends the text of the next note, where there is one.
+fn push_note(alloc: Global, conn: &mut Conn, text: &mut Vec<u8>) -> Result<(), Fail> {
+    match conn.take_note(alloc) {
+        Some(note) => push_text(alloc, &note, text),
+        None => Ok(()),
+    }
+}
+
+fn push_text(alloc: Global, note: &Note, text: &mut Vec<u8>) -> Result<(), Fail> {
+    note_text(alloc, note, text)?;
     Ok(())
 }
 
 // What is left to note, as text.
-fn notes_of(memory: Global, conn: &mut Conn) -> Result<Vec<u8>, Fail> {
-    let mut text = Vec::new(memory);
+fn notes_of(alloc: Global, conn: &mut Conn) -> Result<Vec<u8>, Fail> {
+    let mut text = Vec::new(alloc);
     for _ in 0..8u32 {
-        if let Some(note) = conn.take_note(memory) {
-            note_text(memory, &note, &mut text)?;
-        }
+        push_note(alloc, conn, &mut text)?;
     }
     Ok(text)
 }
@@ -132,17 +140,17 @@ fn notes_of(memory: Global, conn: &mut Conn) -> Result<Vec<u8>, Fail> {
 // These things happen, in three parts, and the connection notes this text.
 fn run(
     rt: &impl Abort,
-    memory: Global,
+    alloc: Global,
     first: &[Act],
     then: &[Act],
     last: &[Act],
     text: &[u8],
 ) -> Result<(), Fail> {
-    let mut conn = Conn::new(memory, 0, b"web", Ip::V4(2_130_706_433))?;
-    play_all(rt, memory, &mut conn, first)?;
-    play_all(rt, memory, &mut conn, then)?;
-    play_all(rt, memory, &mut conn, last)?;
-    let notes = notes_of(memory, &mut conn)?;
+    let mut conn = Conn::new(alloc, 0, b"web", Ip::V4(2_130_706_433))?;
+    play_all(rt, alloc, &mut conn, first)?;
+    play_all(rt, alloc, &mut conn, then)?;
+    play_all(rt, alloc, &mut conn, last)?;
+    let notes = notes_of(alloc, &mut conn)?;
     assert_eq!(rt; notes.as_slice(), text);
     Ok(())
 }
@@ -182,25 +190,28 @@ const BAD_GATEWAY: [Act; 2] = [
 ];
 
 // A request that no router takes, cut at this place.
-fn not_found(rt: &impl Abort, memory: Global, at: usize) -> Result<(), Fail> {
+fn not_found(rt: &impl Abort, alloc: Global, at: usize) -> Result<(), Fail> {
     let request = b"GET / HTTP/1.1\r\nHost: a.test\r\n\r\n".as_slice();
     let (front, back) = request.split_at(at.min(request.len()));
     let acts = [Act::Gives(front), Act::Gives(back), Act::PinsNone];
     let text =
         b"note 0 1 gen 1 router - status 404 NoRouter looks - picks - turns - backs -\nnote 0 end Client\n";
-    run(rt, memory, &acts, &NOT_FOUND, &[], text)
+    run(rt, alloc, &acts, &NOT_FOUND, &[], text)
 }
 
 // The server gives its reply in two pieces, cut at this place.
-fn passed(rt: &impl Abort, memory: Global, at: usize) -> Result<(), Fail> {
+fn passed(rt: &impl Abort, alloc: Global, at: usize) -> Result<(), Fail> {
     let reply = b"HTTP/1.1 200 OK\r\nContent-Length: 2\r\n\r\nok".as_slice();
     let (front, back) = reply.split_at(at.min(reply.len()));
-    let acts = [Act::ServerGives(front), Act::ServerGives(back)];
+    let acts = [
+        Act::Server(BackEvent::Bytes(front)),
+        Act::Server(BackEvent::Bytes(back)),
+    ];
     let text =
         b"note 0 1 gen 1 router 0 status 200 Passed looks 0:1 picks 0:0-1:0 turns - backs 1\nnote 0 end Client\n";
     run(
         rt,
-        memory,
+        alloc,
         &SENT,
         &acts,
         &[Act::Takes(reply), Act::Ends],
@@ -209,7 +220,7 @@ fn passed(rt: &impl Abort, memory: Global, at: usize) -> Result<(), Fail> {
 }
 
 // Two requests in one piece: the second is answered after the first.
-fn two(rt: &impl Abort, memory: Global) -> Result<(), Fail> {
+fn two(rt: &impl Abort, alloc: Global) -> Result<(), Fail> {
     let acts = [
         Act::Gives(b"GET / HTTP/1.1\r\nHost: a.test\r\n\r\nGET / HTTP/1.1\r\nHost: a.test\r\n\r\n"),
         Act::PinsNone,
@@ -218,11 +229,11 @@ fn two(rt: &impl Abort, memory: Global) -> Result<(), Fail> {
     ];
     let text =
         b"note 0 1 gen 1 router - status 404 NoRouter looks - picks - turns - backs -\nnote 0 2 gen 1 router - status 404 NoRouter looks - picks - turns - backs -\nnote 0 end Client\n";
-    run(rt, memory, &acts, &NOT_FOUND, &[], text)
+    run(rt, alloc, &acts, &NOT_FOUND, &[], text)
 }
 
 // Bytes that no head begins with.
-fn refused(rt: &impl Abort, memory: Global) -> Result<(), Fail> {
+fn refused(rt: &impl Abort, alloc: Global) -> Result<(), Fail> {
     let acts = [
         Act::Gives(b"\x00"),
         Act::Pins,
@@ -232,16 +243,16 @@ fn refused(rt: &impl Abort, memory: Global) -> Result<(), Fail> {
     ];
     let text =
         b"note 0 1 gen 1 router - status 400 BadHead looks - picks - turns - backs -\nnote 0 end Refused\n";
-    run(rt, memory, &acts, &[], &[], text)
+    run(rt, alloc, &acts, &[], &[], text)
 }
 
 // The server is down.
-fn down(rt: &impl Abort, memory: Global) -> Result<(), Fail> {
+fn down(rt: &impl Abort, alloc: Global) -> Result<(), Fail> {
     let text =
         b"note 0 1 gen 1 router 0 status 503 NoChild looks 0:0 picks - turns - backs -\nnote 0 end Client\n";
     run(
         rt,
-        memory,
+        alloc,
         &[SENT[0], Act::Pins],
         &[Act::Looks(0)],
         &UNAVAILABLE,
@@ -250,54 +261,68 @@ fn down(rt: &impl Abort, memory: Global) -> Result<(), Fail> {
 }
 
 // The client's link fails during an exchange, or a stop is asked for before a request.
-fn broken_off(rt: &impl Abort, memory: Global) -> Result<(), Fail> {
+fn broken_off(rt: &impl Abort, alloc: Global) -> Result<(), Fail> {
     let text =
         b"note 0 1 gen 1 router 0 status 0 Undecided looks 0:1 picks 0:0-1:0 turns - backs 1\nnote 0 end ClientFailed\n";
-    run(rt, memory, &SENT, &[Act::Fails], &[], text)?;
-    run(rt, memory, &[Act::Stops], &[], &[], b"note 0 end Stopped\n")
+    run(rt, alloc, &SENT, &[Act::Fails], &[], text)?;
+    run(rt, alloc, &[Act::Stops], &[], &[], b"note 0 end Stopped\n")
 }
 
 // The link fails, gives what is no reply, or ends inside a head.
-fn lost(rt: &impl Abort, memory: Global) -> Result<(), Fail> {
+fn lost(rt: &impl Abort, alloc: Global) -> Result<(), Fail> {
     let failed =
         b"note 0 1 gen 1 router 0 status 502 BackFailed 1 looks 0:1 picks 0:0-1:0 turns - backs 1\nnote 0 end Client\n".as_slice();
     let bad =
         b"note 0 1 gen 1 router 0 status 502 BackBad 1 looks 0:1 picks 0:0-1:0 turns - backs 1\nnote 0 end Client\n".as_slice();
-    run(rt, memory, &SENT, &[Act::ServerFails], &BAD_GATEWAY, failed)?;
     run(
         rt,
-        memory,
+        alloc,
         &SENT,
-        &[Act::ServerGives(b"\x00")],
+        &[Act::Server(BackEvent::Failed)],
+        &BAD_GATEWAY,
+        failed,
+    )?;
+    run(
+        rt,
+        alloc,
+        &SENT,
+        &[Act::Server(BackEvent::Bytes(b"\x00"))],
         &BAD_GATEWAY,
         bad,
     )?;
-    let acts = [Act::ServerGives(b"HTTP/1.1 200 OK\r\n"), Act::ServerEnds];
-    run(rt, memory, &SENT, &acts, &BAD_GATEWAY, bad)
+    let acts = [
+        Act::Server(BackEvent::Bytes(b"HTTP/1.1 200 OK\r\n")),
+        Act::Server(BackEvent::End),
+    ];
+    run(rt, alloc, &SENT, &acts, &BAD_GATEWAY, bad)
 }
 
 // The link ends inside the content of its reply.
-fn cut(rt: &impl Abort, memory: Global) -> Result<(), Fail> {
+fn cut(rt: &impl Abort, alloc: Global) -> Result<(), Fail> {
     let piece = b"HTTP/1.1 200 OK\r\nContent-Length: 2\r\n\r\no";
-    let acts = [Act::ServerGives(piece), Act::Takes(piece), Act::ServerEnds];
+    let acts = [
+        Act::Server(BackEvent::Bytes(piece)),
+        Act::Takes(piece),
+        Act::Server(BackEvent::End),
+    ];
     let text =
         b"note 0 1 gen 1 router 0 status 200 Passed looks 0:1 picks 0:0-1:0 turns - backs 1\nnote 0 end Cut 1\n";
-    run(rt, memory, &SENT, &acts, &[], text)
+    run(rt, alloc, &SENT, &acts, &[], text)
 }
 
 #[test]
 fn connections(rt: HostRuntime) -> Result<(), Fail> {
-    let memory = rt.alloc();
+    let alloc = rt.alloc();
     for at in 1..32u32 {
-        not_found(&rt, memory, at as usize)?;
+        not_found(&rt, alloc, at as usize)?;
     }
     for at in 1..40u32 {
-        passed(&rt, memory, at as usize)?;
+        passed(&rt, alloc, at as usize)?;
     }
-    two(&rt, memory)?;
-    refused(&rt, memory)?;
-    down(&rt, memory)?;
-    broken_off(&rt, memory)?;
-    lost(&rt, memory)?;
-    cut(&rt, memory)
+    two(&rt, alloc)?;
+    refused(&rt, alloc)?;
+    down(&rt, alloc)?;
+    broken_off(&rt, alloc)?;
+    lost(&rt, alloc)?;
+    cut(&rt, alloc)
 }
