@@ -7,7 +7,7 @@ ghost use Rattle.conversation.specs.Asks.{query_bytes};
 ghost use Rattle.generation.specs.Meaning.{plan_of, aim_of};
 ghost use Rattle.conn_machine.specs.Parts.{end_by, refused_status, FindsRow, IsRoute, IsAim, issue_plan};
 ghost use Rattle.conn_machine.specs.Prompt.{IsPrompt};
-ghost use Rattle.conn_machine.specs.Reached.{Reached, IsOpen, IsGoing, Waits, KeepsServer};
+ghost use Rattle.conn_machine.specs.Reached.{Reached, HasMemory, IsOpen, IsGoing, Waits, KeepsServer};
 
 use crate::conn::Conn;
 use crate::own::own_text;
@@ -212,6 +212,7 @@ fn aim_at(alloc: Global, target: &Target) -> Result<Aim, Memory>
 /// Why the connection ends after the reply to the current request.
 pub(crate) fn end_after(current: &Current) -> Option<EndCause>
     ensures end { result ≡ end_by current.now.index current.now.asked }
+    ensures memory { IfSome result HasMemory }
 {
     match &current.asked {
         Asked::Request(request) => {

@@ -10,7 +10,7 @@ ghost use Rattle.conn_service.specs.Calm.{ReadDone, IsRead};
 ghost use Rattle.conn_service.specs.Counts.{Counted, Stays};
 ghost use Rattle.conn_service.specs.declared.turn.Reads.{Reads as ReadsOf};
 
-use crate::turn::Reads;
+use crate::turn::{READS, ROOM, Reads};
 use conn_machine::Conn;
 use link_world::{LinkRead, LinkWrite, World};
 use px_base::Memory;
@@ -54,14 +54,14 @@ fn room_for(conn: &Conn, reads: &Reads) -> Option<usize>
     if conn.over {
         return None;
     }
-    if reads.client >= 64 {
+    if reads.client >= READS {
         return None;
     }
     let held = conn.input.as_slice().len();
-    if held >= 32768 {
+    if held >= ROOM {
         return None;
     }
-    Some(32768 - held)
+    Some(ROOM - held)
 }
 
 // Reads the client's link once into this room.
@@ -102,7 +102,11 @@ fn receive_into<W: World>(
 }
 
 /// Writes what is pending for the client. Answers whether anything came of it.
-pub(crate) fn answer<W: World>(conn: &mut Conn, alloc: Global, world: &mut W) -> Result<bool, Memory>
+pub(crate) fn answer<W: World>(
+    conn: &mut Conn,
+    alloc: Global,
+    world: &mut W,
+) -> Result<bool, Memory>
     requires { Linked (W.seen world.old) conn.old }
     ensures went { (g : Desk) → Went ⊥ (moment (W.seen world.old) (W.lately world.old) g conn.old)
         (moment (W.seen world.new) (W.lately world.new) g conn.new) }

@@ -11,7 +11,7 @@ ghost use Rattle.conn_service.specs.Counts.{Counted, Stays};
 ghost use Rattle.conn_service.specs.declared.turn.Reads.{Reads as ReadsOf};
 
 use crate::links::{release, server_of};
-use crate::turn::Reads;
+use crate::turn::{READS, Reads};
 use conn_machine::{Conn, Want};
 use link_world::{LinkRead, LinkWrite, World};
 use px_base::Memory;
@@ -91,7 +91,7 @@ pub(crate) fn hear<W: World>(
     let Some(link) = server_of(conn) else {
         return Ok(false);
     };
-    if reads.server >= 64 {
+    if reads.server >= READS {
         return Ok(false);
     }
     conn.reserve(0)?;

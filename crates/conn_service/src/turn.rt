@@ -20,6 +20,12 @@ use px_base::Memory;
 use std::alloc::{AllocError, Global};
 use std::sync::Wait;
 
+/// As many bytes of the client wait at most, and as many are read at once.
+pub(crate) const ROOM: usize = 32_768;
+
+/// A link is read so often at most before the next wait.
+pub(crate) const READS: u32 = 64;
+
 /// How often the client's link was read since the last wait, and how often the server's.
 #[derive(Clone, Copy, Debug)]
 pub(crate) struct Reads {
@@ -42,7 +48,7 @@ pub(crate) fn work<R: Wait, W: World, S: Shared>(
         (moment (W.seen world.new) (W.lately world.new) (S.desk shared.new) conn.new) }
     ensures calm { OnOk result (Calm (W.lately world.new) conn.new) }
 {
-    let mut buffer = [0; 32768];
+    let mut buffer = [0; ROOM];
     let mut reads = Reads {
         client: 0,
         server: 0,

@@ -1,5 +1,5 @@
 -- Qualified names are valid and differ.
-use Rattle.std.proofs.Common.{◌≡◌, ◌≢◌, ℕ, zero, suc, ◌+◌, ◌-◌, ◌<◌, ◌≤◌, ◌==◌, true, false, Bool, ◌&&◌, List, [], ◌∷◌, ◌++◌, length, map, take, get_or, codes, refl, sym, ap, ◌∙◌, subst, append_assoc, arith, nat_le, Less, Equal, Greater, Ordering, nat_cmp, bytes_eq, inl, inr, All}
+use Rattle.std.proofs.Common.{◌≡◌, ℕ, zero, suc, ◌+◌, ◌-◌, ◌<◌, ◌≤◌, true, false, Bool, ◌&&◌, List, [], ◌∷◌, ◌++◌, length, map, take, get_or, codes, refl, sym, ap, ◌∙◌, subst, arith, nat_le, Less, Equal, Greater, Ordering, nat_cmp, bytes_eq, inl, inr}
 use Rattle.std.specs.List.{IsDistinct, AllByRecursion, list_all}
 use Rattle.std.specs.List.Sorted.{IsPermutation, IsStrictlySortedBy, IsSortedBy}
 use Rattle.std.specs.Ordering.{is_eq, is_lt, eq_by_cmp, ordering_reverse}
@@ -8,7 +8,6 @@ use Rattle.std.specs.Map.{keys_of}
 use Rattle.std.proofs.lemmas.Bool.{false≢true, cases_Bool, le-leb}
 use Rattle.std.proofs.lemmas.Cmp.{nat_list_cmp_total, tied_itself, eq_by_cmp_equiv}
 use Rattle.std.proofs.lemmas.List.{append_cancel_right, take-append-le, length-append, length-map, take_all, get_or-map, get_or-append-add, map-append}
-use Rattle.std.proofs.lemmas.List.Elements.{All-append, All-map}
 use Rattle.std.proofs.lemmas.List.Sorted.{IsPermutation-map, All-permutation}
 use Rattle.std.proofs.lemmas.List.Folds.{list_all-append, list_all-map}
 use Rattle.std.proofs.lemmas.List.Sums.{AllPass-from_list_all, list_all-from_AllPass}
@@ -75,11 +74,10 @@ pub both_distinct : (ks ls : List (List ℕ)) → IsStrictlySortedBy cmp ks → 
     → IsDistinct same (map (λ n. n ++ codes "@file") ks ++ map (λ n. n ++ codes "@consul") ls)
 unfolding IsDistinct
 both_distinct [] ls rise_k rise_l = suffixed_distinct (codes "@consul") ls rise_l
-both_distinct (k ∷ ks) ls rise_k rise_l =
-    (
-      all_both (λ y. same (k ++ codes "@file") y ≡ false) (map (λ n. n ++ codes "@file") ks) (map (λ n. n ++ codes "@consul") ls) (apart_from (codes "@file") k ks (sorted_head cmp k ks rise_k)) (across k ls),
-      both_distinct ks ls (sorted_tail cmp k ks rise_k) rise_l,
-    )
+both_distinct (k ∷ ks) ls rise_k rise_l = (
+  all_both (λ y. same (k ++ codes "@file") y ≡ false) (map (λ n. n ++ codes "@file") ks) (map (λ n. n ++ codes "@consul") ls) (apart_from (codes "@file") k ks (sorted_head cmp k ks rise_k)) (across k ls),
+  both_distinct ks ls (sorted_tail cmp k ks rise_k) rise_l,
+)
 
 -- the names of what a provider adds
 pub names_added : {D : Type 0} (provider : ℕ) (declared : List (List ℕ × D)) → map (λ (e : Entry D). e.name) (entries_of provider declared) ≡ map (qualified provider) (keys_of declared)
@@ -121,11 +119,11 @@ strict {D} [] up distinct = sorted_from_all_adjacent nat_list_cmp_total (map (λ
 strict {D} (e ∷ es) up distinct =
     let names = map (λ (x : Entry D). x.name) (e ∷ es) in
     sorted_from_all_adjacent nat_list_cmp_total names [] (λ k l.
-        let inside : k + 1 < length (e ∷ es) = omega (arith, l, length-map (e ∷ es) (λ (x : Entry D). x.name)) in
-        let at : get_or names k [] ≡ (get_or (e ∷ es) k e).name = get_or-map (λ (x : Entry D). x.name) (e ∷ es) k e [] (omega (arith, inside)) in
-        let next : get_or names (k + 1) [] ≡ (get_or (e ∷ es) (k + 1) e).name = get_or-map (λ (x : Entry D). x.name) (e ∷ es) (k + 1) e [] inside in
-        let below : is_lt (cmp (get_or names (k + 1) []) (get_or names k [])) ≡ false = rw (at, next) (up k e (omega arith) inside) in
-        rises (get_or names k []) (get_or names (k + 1) []) below (neighbours names k distinct l))
+    let inside : k + 1 < length (e ∷ es) = omega (arith, l, length-map (e ∷ es) (λ (x : Entry D). x.name)) in
+    let at : get_or names k [] ≡ (get_or (e ∷ es) k e).name = get_or-map (λ (x : Entry D). x.name) (e ∷ es) k e [] (omega (arith, inside)) in
+    let next : get_or names (k + 1) [] ≡ (get_or (e ∷ es) (k + 1) e).name = get_or-map (λ (x : Entry D). x.name) (e ∷ es) (k + 1) e [] inside in
+    let below : is_lt (cmp (get_or names (k + 1) []) (get_or names k [])) ≡ false = rw (at, next) (up k e (omega arith) inside) in
+    rises (get_or names k []) (get_or names (k + 1) []) below (neighbours names k distinct l))
 
 declared_again : (provider : ℕ) (name : List ℕ) → declared_name provider (qualified provider name) ≡ name
 declared_again provider name =

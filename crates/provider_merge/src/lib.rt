@@ -2,8 +2,6 @@
 #![tactic(auto)]
 
 mod both;
-
-
 mod union;
 
 pub use both::merge;

@@ -1,16 +1,16 @@
 -- A request has one winner at most.
-use Rattle.std.proofs.Common.{[], refl, ◌≡◌, ℕ, ◌<◌, ◌<ℤ◌, ◌⊎◌, inl, inr, List, map, length, get_or, slice_get, Some, None, Option, Contains, sym, ap, ◌∙◌, arith, nat_cmp, Less, Equal, Greater}
+use Rattle.std.proofs.Common.{[], refl, ◌≡◌, ℕ, ◌<◌, ◌<ℤ◌, inl, inr, List, map, length, slice_get, Some, None, Option, Contains, sym, ap, arith, nat_cmp}
 use Rattle.std.specs.List.Sorted.{IsStrictlySortedBy}
 use Rattle.std.specs.Cmp.Lexicographic.{slice_cmp}
 use Rattle.std.specs.Ordering.{int_cmp}
 use Rattle.std.proofs.lemmas.Bool.{cases_order}
 use Rattle.std.proofs.lemmas.Cmp.{int_ranked, by_ranked}
-use Rattle.std.proofs.lemmas.List.{get_or-map, length-map}
+use Rattle.std.proofs.lemmas.List.{length-map}
 use Rattle.std.proofs.lemmas.Map.Keys.{Less-from_sorted}
 use Rattle.std.proofs.lemmas.Option.{slice_get_within, get_or_from_slice_get}
 use Rattle.rule_eval.specs.Truth.{Asked}
 use Rattle.ip_net.specs.declared.ip.Ip.{Ip}
-use Rattle.router_table.specs.Winner.{Beats, Serves, IsWinner, WinnerIs}
+use Rattle.router_table.specs.Winner.{Beats, IsWinner, WinnerIs}
 use Rattle.router_table.specs.declared.row.Row.{Row}
 use Rattle.router_table.proofs.Ordered.{name_at}
 
@@ -39,9 +39,9 @@ number_same rows entry asked peer m n rise a b =
     elim (cases_order m n) [
       | inl e ↦ e
       | inr apart ↦ elim apart [
-          | inl l ↦ absurd (not_a (beats_later rows m n a.row b.row rise a.at b.at l same))
-          | inr l ↦ absurd (not_b (beats_later rows n m b.row a.row rise b.at a.at l (sym same)))
-        ]
+        | inl l ↦ absurd (not_a (beats_later rows m n a.row b.row rise a.at b.at l same))
+        | inr l ↦ absurd (not_b (beats_later rows n m b.row a.row rise b.at a.at l (sym same)))
+      ]
     ]
 
 pub winner_same : (rows : List Row) (entry : List ℕ) (asked : Asked) (peer : Ip) (a b : Option ℕ) → IsStrictlySortedBy (slice_cmp nat_cmp) (map (λ (r : Row). r.name) rows)

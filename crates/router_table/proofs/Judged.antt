@@ -1,16 +1,15 @@
 -- The first reason against a router, put together from the answers of single functions.
-use Rattle.std.proofs.Common.{◌≡◌, ◌≢◌, ℕ, ◌<◌, ◌≤◌, ◌-◌, ◌⊎◌, inl, inr, true, false, Bool, Option, Some, None, List, Result, Ok, Err, refl, sym, ap, ◌∙◌, subst, arith, nat_le, cond, IsUtf8}
+use Rattle.std.proofs.Common.{◌≡◌, ◌≢◌, ℕ, ◌≤◌, ◌-◌, inl, inr, true, false, Bool, None, List, Ok, Err, refl, sym, ap, ◌∙◌, subst, nat_le, cond}
 use Rattle.std.proofs.lemmas.Bool.{false≢true, leb-true, le-leb}
 use Rattle.rule_lang.specs.Trees.{Tree}
-use Rattle.rule_lang.specs.Reading.{IsReadAs, IsRuleFault, IsOutcome, WantsMemory}
+use Rattle.rule_lang.specs.Reading.{WantsMemory}
 use Rattle.rule_lang.specs.declared.read.RuleFault.{RuleFault}
 use Rattle.rule_lang.specs.declared.read.RuleFault.TheVariants as rule_fault
 use Rattle.rule_lang.proofs.Apart.{outcome_same}
-use Rattle.rule_eval.specs.Calls.{Call, calls_of, pattern_count}
-use Rattle.rule_eval.specs.Rules.{compiled_rule}
+use Rattle.rule_eval.specs.Calls.{pattern_count}
 use Rattle.dyn_config.specs.declared.router.RouterDef.{RouterDef}
-use Rattle.router_table.specs.Settings.{Setting, RouterEntry, service_of, chain_of}
-use Rattle.router_table.specs.Faults.{IsRuleOf, IsTextFault, HasRule, HasPatterns, IsCompiled, IsServed, IsChained, IsFault, IsReadFault, IsPatternFault, IsServiceFault, IsChainFault}
+use Rattle.router_table.specs.Settings.{Setting, RouterEntry}
+use Rattle.router_table.specs.Faults.{IsRuleOf, IsTextFault, HasRule, IsCompiled, IsServed, IsReadFault, IsPatternFault, IsServiceFault, IsChainFault}
 use Rattle.router_table.specs.Rows.{IsState, Leaves, refused_by, is_refused}
 use Rattle.router_table.specs.Steps.{IfFault, IsRefusalOf, IsEnabled, IsReferenceFault, left_after}
 use Rattle.router_table.specs.declared.fault.Refusal.{Refusal}
@@ -49,11 +48,14 @@ left_where true left count rule d fits same has =
     let P : ℕ → Type 0 = λ n. n ≤ left in
     inl (rule, record { has_rule = has; fits = subst P same (leb-true count left fits) }, ap (λ n. left - n) same)
 left_where false left count rule d over same has =
-    inr ((λ other p.
-        let one : other ≡ rule = same_rule d.rule other rule p.has_rule.read has.read in
-        let P : ℕ → Type 0 = λ n. n ≤ left in
-        let here : count ≤ left = subst P (ap pattern_count one ∙ sym same) p.fits in
-        false≢true (sym over ∙ le-leb count left here)), refl)
+    inr (
+      (λ other p.
+          let one : other ≡ rule = same_rule d.rule other rule p.has_rule.read has.read in
+          let P : ℕ → Type 0 = λ n. n ≤ left in
+          let here : count ≤ left = subst P (ap pattern_count one ∙ sym same) p.fits in
+          false≢true (sym over ∙ le-leb count left here)),
+      refl,
+    )
 
 -- one with a rule uses its own where they fit
 pub leaves_after : (left : ℕ) (d : RouterDef) (rule : Tree) → HasRule d rule → Leaves left d (left_after left rule)

@@ -1,11 +1,11 @@
 -- Rows, one after another.
-use Rattle.std.proofs.Common.{◌≡◌, ℕ, ◌+◌, ◌-◌, ◌^◌, ◌<◌, ◌≤◌, min, zero, suc, true, false, Bool, ◌&&◌, List, [], ◌∷◌, ◌++◌, length, map, drop, get_or, count_by, refl, sym, ap, ◌∙◌, subst, append_assoc, append-nil, add-one, arith, nat_le, cond}
+use Rattle.std.proofs.Common.{◌≡◌, ℕ, ◌+◌, ◌-◌, ◌^◌, ◌<◌, ◌≤◌, min, zero, suc, true, false, Bool, ◌&&◌, List, [], ◌∷◌, ◌++◌, length, map, drop, get_or, count_by, refl, sym, ap, ◌∙◌, subst, append_assoc, append-nil, add-one, arith, cond}
 use Rattle.std.proofs.lemmas.Bool.{false≢true, leb-true}
 use Rattle.std.proofs.Math.Seq.{drop-cons}
 use Rattle.std.proofs.lemmas.List.{drop_all}
 use Rattle.std.proofs.lemmas.List.Sums.{sum_by_push}
 use Rattle.std.specs.List.{list_all}
-use Rattle.px_base.specs.Bytes.{Rose, one_more}
+use Rattle.px_base.specs.Bytes.{Rose}
 use Rattle.dyn_config.specs.Joined.{is_qualified}
 use Rattle.router_table.specs.Settings.{Setting, RouterEntry}
 use Rattle.router_table.specs.Rows.{AreRows, IsRow, Leaves, is_refused}

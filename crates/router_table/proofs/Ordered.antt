@@ -1,11 +1,10 @@
 -- The order in which rows are asked.
-use Rattle.std.proofs.Common.{◌≡◌, ℕ, ℤ, pos, ◌+◌, ◌<◌, ◌≤◌, ◌<ℤ◌, ◌⊎◌, inl, inr, true, false, Bool, List, [], ◌∷◌, ◌++◌, length, map, get_or, slice_get, Some, Contains, All, Any, refl, sym, ap, ◌∙◌, subst, arith, nat_lt, ◌==◌, ◌&&◌, Ordering, Less, Equal, Greater, nat_cmp}
+use Rattle.std.proofs.Common.{◌≡◌, ℕ, ℤ, pos, ◌+◌, ◌<◌, ◌<ℤ◌, inl, inr, true, false, List, [], ◌∷◌, ◌++◌, length, map, get_or, slice_get, Some, All, Any, refl, sym, ap, ◌∙◌, subst, arith, nat_lt, ◌==◌, ◌&&◌, Ordering, Less, Equal, nat_cmp}
 use Rattle.std.specs.List.{list_any, list_all}
 use Rattle.std.specs.List.Sorted.{IsSorted, IsStrictlySortedBy, IsPermutation}
 use Rattle.std.specs.Ordering.{int_cmp, ordering_then, is_lt}
 use Rattle.std.specs.Cmp.{IsTotalOrder}
 use Rattle.std.specs.Cmp.Lexicographic.{slice_cmp}
-use Rattle.std.specs.declared.cmp.Reverse.{Reverse}
 use Rattle.std.proofs.lemmas.Bool.{false≢true, lt-ltb, eq-eqb, cases_lt}
 use Rattle.std.proofs.lemmas.List.Elements.{All-head, All-tail, Contains-append_left, Contains-push}
 use Rattle.std.proofs.lemmas.Cmp.{int_ranked, ranked, by_ranked, int_cmp_total, nat_cmp_total, nat_list_cmp_total, tied_itself, then_total, on_total, back_total}
@@ -14,7 +13,7 @@ use Rattle.std.proofs.lemmas.List.Sorted.{sorted_far, ranks_by, Contains-permuta
 use Rattle.std.proofs.lemmas.Map.Keys.{Less-from_sorted, any_passes_from_place}
 use Rattle.std.proofs.lemmas.Option.{slice_get_within, slice_get-get_or, get_or_from_slice_get}
 use Rattle.std.proofs.lemmas.Int.{ints}
-use Rattle.router_table.specs.Orders.{AreWithin, AreAll, AreInOrder, Rank, IsRank, AreRanked}
+use Rattle.router_table.specs.Orders.{AreAll, AreInOrder, Rank, IsRank, AreRanked}
 use Rattle.router_table.specs.Winner.{Beats, is_enabled}
 use Rattle.router_table.specs.declared.row.Row.{Row}
 
@@ -85,15 +84,15 @@ name_falls : (rows : List Row) (m n : ℕ) (p q : Row) → IsStrictlySortedBy (s
 name_falls rows m n p q rise at_m at_n less =
     by_ranked (n < m) (n ≡ m) (m < n) (nat_cmp n m) (ranked n m (nat_cmp n m) refl) (λ _ l. l)
     (λ _ e.
-        let one : q ≡ p = same_row rows n m q p e at_n at_m in
-        let itself : slice_cmp nat_cmp p.name p.name ≡ Less = ap (λ (r : Row). slice_cmp nat_cmp r.name p.name) (sym one) ∙ less in
-        absurd (equal_less (sym (tied_itself nat_list_cmp_total p.name) ∙ itself)))
+    let one : q ≡ p = same_row rows n m q p e at_n at_m in
+    let itself : slice_cmp nat_cmp p.name p.name ≡ Less = ap (λ (r : Row). slice_cmp nat_cmp r.name p.name) (sym one) ∙ less in
+    absurd (equal_less (sym (tied_itself nat_list_cmp_total p.name) ∙ itself)))
     (λ _ l.
-        let inside : n < length (map (λ (r : Row). r.name) rows) = omega (arith, length-map rows (λ (r : Row). r.name), slice_get_within rows n q at_n) in
-        let up : slice_cmp nat_cmp (get_or (map (λ (r : Row). r.name) rows) m []) (get_or (map (λ (r : Row). r.name) rows) n []) ≡ Less = Less-from_sorted (slice_cmp nat_cmp) (map (λ (r : Row). r.name) rows) m n [] rise l inside in
-        let over : slice_cmp nat_cmp p.name q.name ≡ Less = rw (name_at rows m p at_m, name_at rows n q at_n) at up in
-        let there : slice_cmp nat_cmp q.name q.name ≡ Less = nat_list_cmp_total.trans q.name p.name q.name less over in
-        absurd (equal_less (sym (tied_itself nat_list_cmp_total q.name) ∙ there)))
+    let inside : n < length (map (λ (r : Row). r.name) rows) = omega (arith, length-map rows (λ (r : Row). r.name), slice_get_within rows n q at_n) in
+    let up : slice_cmp nat_cmp (get_or (map (λ (r : Row). r.name) rows) m []) (get_or (map (λ (r : Row). r.name) rows) n []) ≡ Less = Less-from_sorted (slice_cmp nat_cmp) (map (λ (r : Row). r.name) rows) m n [] rise l inside in
+    let over : slice_cmp nat_cmp p.name q.name ≡ Less = rw (name_at rows m p at_m, name_at rows n q at_n) at up in
+    let there : slice_cmp nat_cmp q.name q.name ≡ Less = nat_list_cmp_total.trans q.name p.name q.name less over in
+    absurd (equal_less (sym (tied_itself nat_list_cmp_total q.name) ∙ there)))
 
 -- the numbers of ranks in order are in order
 pub numbers_in_order : (rows : List Row) (ranks : List Rank) → All (IsRank rows) ranks → IsSorted rank_cmp ranks

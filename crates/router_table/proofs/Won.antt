@@ -8,7 +8,7 @@ use Rattle.std.proofs.lemmas.Option.{slice_get-get_or}
 use Rattle.rule_eval.specs.Truth.{Asked}
 use Rattle.ip_net.specs.declared.ip.Ip.{Ip}
 use Rattle.router_table.specs.Orders.{AreWithin, AreAll, AreInOrder}
-use Rattle.router_table.specs.Winner.{Beats, Serves, ServesAs, IsWinner, NoWinner, is_enabled, is_enabled_state}
+use Rattle.router_table.specs.Winner.{Serves, ServesAs, IsWinner, NoWinner, is_enabled_state}
 use Rattle.router_table.specs.declared.row.RouterState.{RouterState}
 use Rattle.router_table.specs.declared.row.RouterState.TheVariants.{Enabled, Disabled}
 use Rattle.router_table.specs.declared.row.Row.{Row}
@@ -74,6 +74,7 @@ pub next_row : (rows row_items : List Row) (order numbers : List ℕ) (i : ℕ) 
     → (slice_get order i ≡ Some (get_or numbers i 0)) × (slice_get rows (get_or numbers i 0) ≡ Some row)
 next_row rows row_items order numbers i row same_rows same_order within l at =
     let P : List ℕ → Type 0 = λ ns. list_all (λ n. nat_lt n (length rows)) ns ≡ true in
-    let small : get_or numbers i 0 < length rows = within_at (length rows) numbers (subst P (sym same_order) within) i l in
-    (ap (λ ns. slice_get ns i) (sym same_order) ∙ slice_get-get_or numbers i 0 l,
-    slice_get-get_or rows (get_or numbers i 0) row small ∙ ap Some (ap (λ rs. get_or rs (get_or numbers i 0) row) (sym same_rows) ∙ sym at))
+    let small : get_or numbers i 0 < length rows = within_at (length rows) numbers (subst P (sym same_order) within) i l in (
+      ap (λ ns. slice_get ns i) (sym same_order) ∙ slice_get-get_or numbers i 0 l,
+      slice_get-get_or rows (get_or numbers i 0) row small ∙ ap Some (ap (λ rs. get_or rs (get_or numbers i 0) row) (sym same_rows) ∙ sym at),
+    )

@@ -1,7 +1,7 @@
 -- By what routers are judged, beside their own options and rules: which services and middlewares are declared, and which
 -- of them are usable.
-use Rattle.std.specs.Prelude.{ℕ, ◌==◌, Bool, ◌&&◌, List, [], ◌∷◌, map, sum_by, bytes_eq, if◌then◌else◌}
-use Rattle.std.specs.List.{list_any, list_all}
+use Rattle.std.specs.Prelude.{ℕ, Bool, List, [], ◌∷◌, map, sum_by, bytes_eq, if◌then◌else◌}
+use Rattle.std.specs.List.{list_any}
 use Rattle.dyn_config.specs.declared.merged.Entry.{Entry}
 use Rattle.dyn_config.specs.declared.merged.Merged.{Merged}
 use Rattle.dyn_config.specs.declared.router.RouterDef.{RouterDef}

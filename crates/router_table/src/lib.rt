@@ -10,8 +10,6 @@ mod references;
 mod row;
 mod setting;
 mod table;
-#[cfg(test)]
-mod tests;
 mod winning;
 
 pub use fault::RouterFault;

@@ -1,5 +1,8 @@
 -- The one server of a service.
-use Rattle.std.specs.Prelude.{◌≡◌, ℕ, ◌<◌, List, [], ◌∷◌, Option, None}
+use Rattle.std.specs.Prelude.{◌≡◌, ◌<◌, [], ◌∷◌, All, None}
+use Rattle.dyn_config.specs.declared.merged.Entry.{Entry}
+use Rattle.dyn_config.specs.declared.merged.Merged.{Merged}
+use Rattle.dyn_config.specs.declared.router.RouterDef.{RouterDef}
 use Rattle.px_base.specs.declared.server.Server.{Server}
 use Rattle.dyn_config.specs.declared.service.ServerDef.{ServerDef}
 use Rattle.dyn_config.specs.declared.service.BalancerDef.{BalancerDef}
@@ -28,3 +31,17 @@ IsOnlyServer (Weighted w) s = ⊥
 IsOnlyServer (Mirroring m) s = ⊥
 IsOnlyServer (Failover f) s = ⊥
 IsOnlyServer Unsupported s = ⊥
+
+-- the router names no middleware
+abbrev pub NamesNone : Entry RouterDef → Type 0
+NamesNone router = router.def.middlewares ≡ []
+
+-- the service has its one server
+abbrev pub HasOnly : Entry ServiceDef → Type 0
+HasOnly service = (s : Server) × IsOnlyServer service.def s
+
+-- no middleware is declared or named, and each service is a balancer of one server
+pub record IsFirstForm (m : Merged) : Type 0 where
+  pub undeclared : m.middlewares ≡ []
+  pub unnamed : All NamesNone m.routers
+  pub only : All HasOnly m.services

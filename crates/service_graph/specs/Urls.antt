@@ -1,6 +1,5 @@
 -- The URL of a server: `http://`, a host, an optional colon and port, and an optional path.
-use Rattle.std.specs.Prelude.{◌≡◌, ◌≢◌, ℕ, ◌≤◌, ◌⊎◌, Bool, true, false, ◌||◌, ◌==◌, List, [], ◌∷◌, ◌++◌, length, take, All, codes, IsTrue, bytes_eq}
-use Rattle.std.specs.List.{before_first}
+use Rattle.std.specs.Prelude.{◌≡◌, ◌≢◌, ℕ, ◌≤◌, ◌⊎◌, Bool, true, false, ◌||◌, ◌==◌, List, [], ◌∷◌, ◌++◌, length, take, All, codes, IsTrue, bytes_eq, position, Option, Some, None}
 use Rattle.std.specs.Str.Parse.{digits_value}
 use Rattle.std.specs.Char.{is_ascii_alphanumeric}
 use Rattle.std.specs.Net.Grammar.{IsIpv6Text}
@@ -19,7 +18,7 @@ IsNameHost host = (1 ≤ length host) × (length host ≤ 253) × All (λ b. IsT
 
 -- an IPv6 address (RFC 4291 section 2.2)
 abbrev pub IsIpv6 : List ℕ → Type 0
-IsIpv6 text = (address : Ipv6Addr) × ∥ IsIpv6Text text address ∥₁
+IsIpv6 text = (address : Ipv6Addr) × IsIpv6Text text address
 
 -- an IPv6 address in brackets, of which the closing one is the first (RFC 3986 section 3.2.2)
 abbrev pub IsInBrackets : List ℕ → Type 0
@@ -49,9 +48,14 @@ pub record IsAuthority (text host : List ℕ) (port : ℕ) : Type 0 where
 abbrev pub is_slash : ℕ → Bool
 is_slash b = b == 47
 
+-- what stands before that place, or all where there is none
+abbrev pub before_place : Option ℕ → List ℕ → List ℕ
+before_place None text = text
+before_place (Some at) text = take at text
+
 -- the authority is what stands before the first slash
 abbrev pub authority_text : List ℕ → List ℕ
-authority_text text = before_first is_slash text
+authority_text text = before_place (position is_slash text) text
 
 -- the URL names this server
 abbrev pub IsServerUrl : List ℕ → List ℕ → ℕ → Type 0

@@ -1,6 +1,6 @@
 //! The URL of a server.
-ghost use Rattle.std.specs.Prelude.{◌≡◌, ◌≢◌, ◌≤◌, ◌↔◌, ◌++◌, ◌∷◌, [], ℕ, List, All, IsTrue, MatchOption, MatchResult, true};
-ghost use Rattle.service_graph.specs.Urls.{IsServerUrl, IsUrlFault, authority_text, IsAuthority, IsNameHost, IsPort, IsPortPart, has_other_scheme as is_of_other_scheme, IsIpv6};
+ghost use Rattle.std.specs.Prelude.{◌≡◌, ◌≢◌, ◌≤◌, ◌↔◌, ◌++◌, ◌∷◌, [], ℕ, List, All, IsTrue, MatchOption, MatchResult, IfSome, position, length, ◌<◌, true};
+ghost use Rattle.service_graph.specs.Urls.{IsServerUrl, IsUrlFault, authority_text, is_slash, IsAuthority, IsNameHost, IsPort, IsPortPart, has_other_scheme as is_of_other_scheme, IsIpv6};
 
 use px_base::{cut_at_colon, read_decimal};
 use std::net::Ipv6Addr;
@@ -57,10 +57,17 @@ fn has_other_scheme(url: &[u8]) -> bool
 fn before_slash(text: &[u8]) -> &[u8]
     ensures { result.now ≡ authority_text text.now }
 {
-    match text.iter().position(|byte| *byte == b'/') {
+    match place_of_slash(text) {
         Some(at) => &text[..at],
         None => text,
     }
+}
+
+fn place_of_slash(text: &[u8]) -> Option<usize>
+    ensures place { result ≡ position is_slash text.now }
+    ensures within { IfSome result (λ at. at < length text.now) }
+{
+    text.iter().position(|byte| *byte == b'/')
 }
 
 // The server that an authority names.
@@ -82,16 +89,14 @@ fn address_of(text: &[u8]) -> Option<ServerUrl<'_>>
         ((host : List ℕ) (port : ℕ) → ¬ (IsAuthority text.now host port))
         (λ s. IsAuthority text.now s.host.now s.port) }
 {
-    match cut_at_bracket(text) {
-        Some(parts) => {
-            if !is_ipv6(parts.inner) {
+    match cut_at_bracket(&text[1..]) {
+        Some((inner, after)) => {
+            let host = &text[..inner.len() + 2];
+            if !is_ipv6(inner) {
                 return None;
             }
-            match port_after(parts.after) {
-                Some(port) => Some(ServerUrl {
-                    host: parts.host,
-                    port,
-                }),
+            match port_after(after) {
+                Some(port) => Some(ServerUrl { host, port }),
                 None => None,
             }
         }
@@ -99,33 +104,23 @@ fn address_of(text: &[u8]) -> Option<ServerUrl<'_>>
     }
 }
 
-// A text cut behind its first closing bracket, and what stands in its brackets.
-#[derive(Clone, Copy, Debug)]
-struct Bracketed<'a> {
-    inner: &'a [u8],
-    host: &'a [u8],
-    after: &'a [u8],
-}
-
-fn cut_at_bracket(text: &[u8]) -> Option<Bracketed<'_>>
-    requires { (rest : List ℕ) × (text.now ≡ 91 ∷ rest) }
+// What stands before the first closing bracket and what stands after it.
+fn cut_at_bracket(text: &[u8]) -> Option<(&[u8], &[u8])>
     ensures { MatchOption result
         (All (λ b. b ≢ 93) text.now)
-        (λ parts. (text.now ≡ parts.host.now ++ parts.after.now) × (parts.host.now ≡ 91 ∷ parts.inner.now ++ 93 ∷ [])
-            × All (λ b. b ≢ 93) parts.inner.now) }
+        (λ parts. (text.now ≡ parts.0.now ++ 93 ∷ parts.1.now) × All (λ b. b ≢ 93) parts.0.now) }
 {
     let at = text.iter().position(|b| *b == b']')?;
-    Some(Bracketed {
-        inner: &text[1..at],
-        host: &text[..at + 1],
-        after: &text[at + 1..],
-    })
+    Some((&text[..at], &text[at + 1..]))
 }
 
 fn is_ipv6(text: &[u8]) -> bool
     ensures { IsTrue result ↔ IsIpv6 text.now }
 {
-    Ipv6Addr::parse_ascii(text).is_ok()
+    match Ipv6Addr::parse_ascii(text) {
+        Ok(_) => true,
+        Err(_) => false,
+    }
 }
 
 // The port that stands behind a host: nothing means 80.

@@ -7,12 +7,11 @@ ghost use Rattle.worker_loop.specs.Runs.{Attends};
 
 use crate::{Worker, WorkerEnd, run_worker};
 use desk::OneDesk;
-use generation::{Generation, Route, Target};
+use generation::{Generation, one_router};
 use ip_net::Ip;
 use link_world::{Arrival, World};
 use memory_world::{Given, MemoryWorld};
-use px_base::{Bytes, List, Memory};
-use rule_lang::{Leaf, Matcher};
+use px_base::{Bytes, Memory};
 use std::alloc::{AllocError, Global};
 use std::process::Abort;
 use std::sync::{Arc, Wait};
@@ -27,30 +26,6 @@ const REPLY: &str = "HTTP/1.1 200 OK\r\nContent-Length: 2\r\n\r\nok";
 
 fn bytes(alloc: Global, text: &str) -> Result<Bytes, Memory> {
     Bytes::from_slice(alloc, text.as_bytes())
-}
-
-// Every path goes to this server.
-fn routes(alloc: Global) -> Result<List<Route>, Memory> {
-    let rule = Leaf {
-        matcher: Matcher::PathPrefix,
-        value: bytes(alloc, "/")?,
-    };
-    let target = Target {
-        node: 0,
-        host: bytes(alloc, "127.0.0.1")?,
-        port: 9000,
-        pass_host: true,
-    };
-    let name = bytes(alloc, "r@file")?;
-    let mut routes = List::new(alloc);
-    routes.push(Route {
-        row: 0,
-        name,
-        rule,
-        priority: 15,
-        target,
-    })?;
-    Ok(routes)
 }
 
 fn arrival(alloc: Global) -> Result<Given, Memory> {
@@ -148,11 +123,14 @@ fn two_requests(alloc: Global) -> Result<Vec<Given>, Fail> {
     Ok(steps)
 }
 
-// The configuration of this number.
+// The configuration of this number: every path goes to one server.
 fn numbered(alloc: Global, number: u64) -> Result<Arc<Generation, Global>, Memory>
     ensures { IfOk result (λ issue. (issue_plan issue).number ≡ number) }
 {
-    let generation = Generation::new(number, routes(alloc)?);
+    let Some(generation) = one_router(alloc, number, b"PathPrefix(`/`)", b"http://127.0.0.1:9000")?
+    else {
+        return Err(AllocError);
+    };
     let Ok(issue) = Arc::new(alloc, generation) else {
         return Err(AllocError);
     };

@@ -8,8 +8,8 @@ returns-then-not-is_open-clause-none c = λ l h open_. let no_ : c.is_open.resul
 pub returns-then-conn-clause-none : goal.returns-then-conn-clause-none
 returns-then-conn-clause-none c = λ l h open_. inl (search rules)
 
-pub returns-then-reads-ge64-clause-none : goal.returns-then-reads-ge64-clause-none
-returns-then-reads-ge64-clause-none c = λ l h open_. inr (inr (inr (omega (arith, h.client))))
+pub returns-then-reads-ge-READS-clause-none : goal.returns-then-reads-ge-READS-clause-none
+returns-then-reads-ge-READS-clause-none c = λ l h open_. inr (inr (inr (omega (arith, h.client))))
 
-pub returns-then-held-ge32768-clause-none : goal.returns-then-held-ge32768-clause-none
-returns-then-held-ge32768-clause-none c = λ l h open_. inr (inl (subst (λ (x : List ℕ). 32768 ≤ length x) c.as_slice-held.ensures.value c.if-held-ge32768.true))
+pub returns-then-held-ge-ROOM-clause-none : goal.returns-then-held-ge-ROOM-clause-none
+returns-then-held-ge-ROOM-clause-none c = λ l h open_. inr (inl (subst (λ (x : List ℕ). 32768 ≤ length x) c.as_slice-held.ensures.value c.if-held-ge-ROOM.true))

@@ -1,8 +1,8 @@
-use Rattle.std.proofs.Common.{◌≡◌, ℕ, List, All, map, length, ap, sym, ◌∙◌, subst}
+use Rattle.std.proofs.Common.{All, map, ap, sym, ◌∙◌, subst}
 use Rattle.std.proofs.lemmas.Result.{IfOk-weaker}
 use Rattle.std.proofs.lemmas.List.Sorted.{All-permutation}
 use Rattle.router_table.specs.Orders.{AreWithin, AreAll, AreInOrder, Rank, IsRank}
-use Rattle.router_table.proofs.Ordered.{numbers_within, numbers_all, numbers_in_order, rank_cmp}
+use Rattle.router_table.proofs.Ordered.{numbers_within, numbers_all, numbers_in_order}
 use Rattle.router_table.proofs.order.order_of.Goals as goal
 
 pub returns-clause-within : goal.returns-clause-within

@@ -1,4 +1,4 @@
-use Rattle.std.proofs.Common.{arith, drop, ◌+◌}
+use Rattle.std.proofs.Common.{arith}
 use Rattle.router_table.specs.Steps.{meant}
 use Rattle.router_table.proofs.Listed.{row_next, rows_done, refused_more}
 use Rattle.router_table.proofs.table.building.rows_of.Goals as goal

@@ -1,4 +1,4 @@
-use Rattle.std.proofs.Common.{ℕ, ◌+◌, ◌-◌, ◌^◌, ◌≤◌, min, List, ◌++◌, drop, count_by}
+use Rattle.std.proofs.Common.{◌+◌, ◌-◌, ◌^◌, ◌≤◌, min, List, ◌++◌, drop, count_by}
 use Rattle.router_table.specs.Rows.{AreRows, is_refused}
 use Rattle.router_table.specs.Steps.{meant}
 use Rattle.router_table.specs.declared.row.Row.{Row}
