@@ -1,5 +1,5 @@
 -- Each pin is accounted for.
-use Rattle.std.proofs.Common.{◌≡◌, ◌≢◌, ◌⊎◌, ℕ, ◌+◌, ◌≤◌, List, [], ◌∷◌, ◌++◌, map, length, Option, Some, None, refl, sym, ◌∙◌, ap, subst, inl, inr, arith, true, false, Bool, length-append}
+use Rattle.std.proofs.Common.{◌≡◌, ◌≢◌, ℕ, ◌+◌, List, [], ◌∷◌, ◌++◌, map, length, Option, Some, None, refl, sym, ◌∙◌, ap, subst, inl, inr, arith, true, false, Bool, length-append}
 use Rattle.std.specs.Prelude.{◌==◌, Result, Ok, Err, IsOk, OnOk}
 use Rattle.std.specs.List.{flat_map}
 use Rattle.std.proofs.lemmas.Bool.{cases_eq}
@@ -16,7 +16,7 @@ use Rattle.link_world.specs.Lately.{Lately}
 use Rattle.conversation.specs.Plans.{Plan}
 use Rattle.conversation.specs.Steps.{Step, history, pins, pins_by, IsNew}
 use Rattle.conversation.specs.Turns.{Turn}
-use Rattle.conversation.specs.Served.{of_all, of_last, pin_of, notes_of}
+use Rattle.conversation.specs.Served.{of_last, pin_of, notes_of}
 use Rattle.desk.specs.Desks.{Desk}
 use Rattle.conn_machine.specs.Parts.{Trail, TiedBy, AtStage}
 use Rattle.conn_machine.specs.Reached.{Reached, PhaseHolds, IsTold, IsFinished, ending_note, closed_by, trail_of, pending_of}

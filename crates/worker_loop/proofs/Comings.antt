@@ -1,18 +1,17 @@
 -- A worker's run over arrivals, the clock, waits and stops, and when it is settled.
-use Rattle.std.proofs.Common.{◌≡◌, ◌≢◌, ◌⊎◌, ℕ, ◌+◌, ◌<◌, ◌≤◌, List, [], ◌∷◌, ◌++◌, Option, Some, None, refl, zero, suc, length, get_or, sym, ◌∙◌, ap, subst, inl, inr, arith, true, false, Bool}
-use Rattle.std.specs.Prelude.{IfSome, ◌==◌, Result, Ok, Err}
-use Rattle.std.specs.List.{AllByRecursion, Contains, flat_map}
+use Rattle.std.proofs.Common.{◌≡◌, ◌≢◌, ℕ, ◌<◌, ◌≤◌, List, [], ◌∷◌, ◌++◌, Option, Some, None, refl, sym, ◌∙◌, ap, subst, inl, inr, arith, true, false, Bool}
+use Rattle.std.specs.Prelude.{IfSome, ◌==◌, Ok, Err}
+use Rattle.std.specs.List.{Contains, flat_map}
 use Rattle.std.proofs.lemmas.Bool.{cases_eq, cases_lt}
 use Rattle.std.proofs.lemmas.Bool.Decides.{nat_tests}
-use Rattle.std.proofs.lemmas.List.{append_assoc, append-nil}
+use Rattle.std.proofs.lemmas.List.{append-nil}
 use Rattle.ip_net.specs.declared.ip.Ip.{Ip}
 use Rattle.slab.specs.Slab.{Slab, get}
 use Rattle.link_world.specs.declared.note.Note.{Note}
-use Rattle.link_world.specs.declared.note.EndCause.{EndCause}
 use Rattle.link_world.specs.declared.world.Arrival.{Arrival}
 use Rattle.link_world.specs.declared.world.WaitFailed.{WaitFailed}
-use Rattle.link_world.specs.Log.{Event, LinkEvent, came, waited, clock, on, closed, stop, IsFresh, is_of, only_if, happening, history_of, notes}
-use Rattle.link_world.specs.Seen.{Seen, with_event, Rose, Came, Closed, CloseDid, NowDid, StopDid, WaitDid}
+use Rattle.link_world.specs.Log.{Event, LinkEvent, came, waited, clock, on, closed, stop, IsFresh, only_if, happening, history_of, notes}
+use Rattle.link_world.specs.Seen.{Seen, Rose, Came, Closed, CloseDid, NowDid, StopDid, WaitDid}
 use Rattle.link_world.specs.Lately.{Lately, SameAt}
 use Rattle.conversation.specs.Plans.{Plan}
 use Rattle.desk.specs.Desks.{Desk}
@@ -21,16 +20,15 @@ use Rattle.conversation.specs.Served.{end_note, of_all, pin_of, notes_of}
 use Rattle.conversation.specs.Turns.{Turn}
 use Rattle.conn_machine.specs.Reached.{ending_note, closed_by}
 use Rattle.conn_machine.specs.declared.conn.Conn.{Conn}
-use Rattle.conn_service.specs.Moments.{Stands, IsElse, IsExchanging, IsHeld, moment}
-use Rattle.conn_service.specs.Pins.{IsBelow}
+use Rattle.conn_service.specs.Moments.{Stands, IsElse, IsExchanging, moment}
 use Rattle.conn_service.specs.Went.{Went, Lost, extended}
 use Rattle.conn_service.specs.Calm.{Calm}
 use Rattle.conn_service.proofs.Calms.{calm_kept}
 use Rattle.worker_loop.specs.Owned.{Shows, HaveCome, Tracks}
-use Rattle.worker_loop.specs.Runs.{AttendsBy, Runs, Stopping, Began, IsOver, Unasked}
+use Rattle.worker_loop.specs.Runs.{AttendsBy, Runs, Stopping, Began, Unasked}
 use Rattle.worker_loop.specs.Settled.{SettledUnder, AllSettled, SameTurn, TurnDone, EndsOnly, StoppedAfter}
-use Rattle.worker_loop.proofs.Lists.{contains_none, extended_twice, extended_none, told_step, told_all, history_quiet, history-append, new_none, grew_none}
-use Rattle.worker_loop.proofs.Frames.{history_fresh, Passed, Grows, client_told, back_told, has_come, no_more_told, rose_after}
+use Rattle.worker_loop.proofs.Lists.{contains_none, extended_twice, extended_none, told_step, told_all, history-append, grew_none}
+use Rattle.worker_loop.proofs.Frames.{history_fresh, Passed, client_told, back_told, has_come, no_more_told, rose_after}
 use Rattle.worker_loop.proofs.Servings.{unowned, Others, Here, step_at, step_quiet, step_same}
 
 other_link : {l link : ℕ} → l ≢ link → (l == link) ≡ false

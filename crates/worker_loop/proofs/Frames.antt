@@ -1,18 +1,17 @@
 -- What happened on some links, seen by those to whom it wasn't told.
-use Rattle.std.proofs.Common.{◌≡◌, ◌≢◌, ◌⊎◌, ℕ, ◌<◌, ◌≤◌, List, [], ◌∷◌, ◌++◌, Option, Some, None, refl, sym, ◌∙◌, ap, subst, inl, inr, arith, true, false, Bool}
+use Rattle.std.proofs.Common.{◌≡◌, ◌≢◌, ℕ, ◌≤◌, List, [], ◌∷◌, ◌++◌, Option, Some, None, refl, sym, ◌∙◌, ap, subst, inl, inr, arith, true, false, Bool}
 use Rattle.std.specs.Prelude.{IfSome, ◌==◌, if◌then◌else◌}
-use Rattle.std.specs.List.{AllByRecursion, Contains}
+use Rattle.std.specs.List.{AllByRecursion}
 use Rattle.std.proofs.lemmas.Bool.{cases_eq}
 use Rattle.std.proofs.lemmas.Bool.Decides.{nat_tests}
 use Rattle.std.proofs.lemmas.List.{append-nil}
-use Rattle.std.proofs.lemmas.List.Elements.{Contains-append_left}
 use Rattle.ip_net.specs.declared.ip.Ip.{Ip}
-use Rattle.link_world.specs.Log.{Event, LinkEvent, came, waited, clock, on, closed, stop, IsFresh, is_of, only_if, happening, history_of}
+use Rattle.link_world.specs.Log.{Event, LinkEvent, waited, clock, on, closed, stop, IsFresh, is_of, only_if, happening, history_of}
 use Rattle.link_world.specs.Seen.{Seen, Rose}
 use Rattle.link_world.specs.declared.note.EndCause.{EndCause}
 use Rattle.link_world.specs.declared.note.EndCause.TheVariants.{Client, ClientFailed, Asked, Refused, Unread, Idle, Count, Cut, CutLate, Stopped, Memory}
 use Rattle.conversation.specs.Plans.{Plan}
-use Rattle.conversation.specs.Steps.{Step, history, failures, pins, IsNew}
+use Rattle.conversation.specs.Steps.{Step, history, pins, IsNew}
 use Rattle.conversation.specs.Turns.{Turn, BackLink, IsLinkTold}
 use Rattle.conversation.specs.Served.{Served, EndHolds, IfLast, IsAnswered}
 use Rattle.conn_machine.specs.Reached.{Reached, PhaseHolds, pending_of}
@@ -24,11 +23,10 @@ use Rattle.conn_machine.specs.declared.parts.Phase.{Phase}
 use Rattle.conn_machine.specs.declared.parts.Phase.TheVariants.{Open}
 use Rattle.desk.specs.Desks.{Grew}
 use Rattle.conn_service.specs.Went.{extended}
-use Rattle.conn_service.specs.Moments.{IsReady, IsExchanging}
 use Rattle.conn_service.specs.Pins.{IsBelow}
 use Rattle.worker_loop.specs.Owned.{AreApart, Shows, AreCounted, HaveCome, Tracks, put}
 use Rattle.worker_loop.specs.Runs.{Stopping, IsServed, IsOver}
-use Rattle.worker_loop.proofs.Lists.{true_or_false, all_weaker, told_step, history_quiet, new_none, grew_all}
+use Rattle.worker_loop.proofs.Lists.{true_or_false, told_step, history_quiet, new_none, grew_all}
 
 pub history_fresh : (link : ℕ) (log : List Event) → IsFresh link log → history_of link log ≡ []
 history_fresh link [] h = refl

@@ -11,7 +11,7 @@ use Rattle.link_world.specs.declared.note.Note.{Note}
 use Rattle.link_world.specs.declared.note.EndCause.{EndCause}
 use Rattle.link_world.specs.Log.{Event, LinkEvent, IsFresh, history_of, notes, note_by}
 use Rattle.link_world.specs.Seen.{Seen, Rose}
-use Rattle.link_world.specs.Lately.{Lately, SameAt}
+use Rattle.link_world.specs.Lately.{Lately}
 use Rattle.conversation.specs.Plans.{Plan}
 use Rattle.conversation.specs.Steps.{Step, history, failures, failures_by, pins, pins_by, stops, stops_by, IsNew}
 use Rattle.conversation.specs.Served.{Served, end_note}
@@ -19,13 +19,13 @@ use Rattle.conn_machine.specs.Reached.{Reached, IsUnended, IsRequestNote, IsFini
 use Rattle.conn_machine.specs.declared.conn.Conn.{Conn}
 use Rattle.conn_machine.specs.declared.parts.Client.{Client}
 use Rattle.desk.specs.Desks.{Desk, Grew}
-use Rattle.conn_service.specs.Moments.{moment, IsExchanging, Stands, IsElse, IsReady, Given, Owns}
+use Rattle.conn_service.specs.Moments.{moment, Stands, IsElse, IsReady, Owns}
 use Rattle.conn_service.specs.Went.{Went, Lost, extended}
 use Rattle.worker_loop.specs.Owned.{AreApart, Shows, AreCounted, HaveCome, Tracks, put}
-use Rattle.worker_loop.specs.Runs.{AttendsBy, Attends, Runs, Stopping, IsServed, IsOver, EndsOver, EndsServed, Unasked}
-use Rattle.worker_loop.specs.Settled.{SettledUnder, AllSettled, EndsOnly}
+use Rattle.worker_loop.specs.Runs.{Attends, Runs, Stopping, IsOver, EndsOver, EndsServed, Unasked}
+use Rattle.worker_loop.specs.Settled.{EndsOnly}
 use Rattle.worker_loop.proofs.Lists.{true_or_false, all_both, none_in_neither, none_is, contains_none, extended_twice, extended_none, told_step, told_both, told_back, told_then, told_all, told_each, history-append, steps-append, new_none, new_both, grew_all, grew_none}
-use Rattle.worker_loop.proofs.Frames.{history_fresh, Passed, Grows, apart_sym, apart_none, put_same, put_other, have_come, has_come, no_more_told, client_told, back_told, tracks_kept, served_weaker, stopping_later, apart_next, over_kept, over_quiet}
+use Rattle.worker_loop.proofs.Frames.{history_fresh, Passed, Grows, apart_sym, apart_none, put_same, put_other, have_come, client_told, back_told, tracks_kept, served_weaker, stopping_later, apart_next, over_kept, over_quiet}
 
 -- all but one key have what they had
 abbrev pub Others : Slab Conn → Slab Conn → ℕ → Type 0

@@ -1,10 +1,9 @@
-use Rattle.std.proofs.Common.{◌≡◌, ℕ, rules, sym, ◌∙◌, refl, arith, subst, ap}
-use Rattle.link_world.specs.Seen.{Rose, Seen}
+use Rattle.std.proofs.Common.{ℕ, sym, ◌∙◌, refl, subst, ap}
+use Rattle.link_world.specs.Seen.{Seen}
 use Rattle.worker_loop.proofs.Servings.{runs_none, runs_attends, run_served, step_same}
 use Rattle.worker_loop.proofs.Accountings.{accounts_same, accounts_wait, accounts_failed, accounts_stop}
 use Rattle.worker_loop.proofs.Comings.{step_stop, step_wait, step_failed, stop_rose, wait_rose, wait_stops, stopped_after, rose_kept, fault_kept}
 use Rattle.worker_loop.specs.Settled.{TurnDone}
-use Rattle.worker_loop.proofs.Frames.{rose_after}
 use Rattle.worker_loop.proofs.rounds.run_worker.Goals as goal
 
 pub loop-init : goal.loop-init

@@ -1,4 +1,4 @@
-use Rattle.std.proofs.Common.{◌≡◌, ◌≢◌, ℕ, ap, sym, ◌∙◌, refl, inl, inr, arith, rules}
+use Rattle.std.proofs.Common.{ap, ◌∙◌, inl, arith, rules}
 use Rattle.link_world.specs.Lately.{Lately}
 use Rattle.worker_loop.proofs.Servings.{runs_none, runs_attends}
 use Rattle.worker_loop.proofs.Accountings.{accounts_clock}
