@@ -18,9 +18,14 @@ use std::sync::{Arc, Wait};
 use std::test::Fail;
 
 const REQUEST: &str = "GET / HTTP/1.1\r\nHost: a.test\r\n\r\n";
-const FORWARDED: &str = "GET / HTTP/1.1\r\nHost: a.test\r\nX-Forwarded-For: 127.0.0.1\r\nX-Forwarded-Host: a.test\r\nX-Forwarded-Port: 80\r\nX-Forwarded-Proto: http\r\nX-Real-Ip: 127.0.0.1\r\nConnection: close\r\n\r\n";
+
+const FORWARDED: &str =
+    "GET / HTTP/1.1\r\nHost: a.test\r\nX-Forwarded-For: 127.0.0.1\r\nX-Forwarded-Host: a.test\r\nX-Forwarded-Port: 80\r\nX-Forwarded-Proto: http\r\nX-Real-Ip: 127.0.0.1\r\nConnection: close\r\n\r\n";
+
 const REPLY: &str = "HTTP/1.1 200 OK\r\nContent-Length: 2\r\n\r\nok";
-const NOTES: &str = "note 0 1 gen 1 router 0 status 200 Passed looks 0:1 picks 0:0-1:0 turns - backs 1\nnote 0 end Client\n";
+
+const NOTES: &str =
+    "note 0 1 gen 1 router 0 status 200 Passed looks 0:1 picks 0:0-1:0 turns - backs 1\nnote 0 end Client\n";
 
 fn bytes(alloc: Global, text: &str) -> Result<Bytes, Memory> {
     Bytes::from_slice(alloc, text.as_bytes())
