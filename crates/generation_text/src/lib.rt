@@ -3,8 +3,6 @@
 
 mod rows;
 mod services;
-#[cfg(test)]
-mod tests;
 
 pub use rows::push_rows;
 pub use services::services_text;

@@ -1,1 +1,0 @@
-//! Lines of services and routers.
