@@ -6,12 +6,11 @@ ghost use Rattle.conn_service.specs.Moments.{IsReady, IsTracked};
 use crate::serve;
 use conn_machine::Conn;
 use desk::OneDesk;
-use generation::{Generation, Route, Target};
+use generation::{Generation, one_router};
 use ip_net::Ip;
 use link_world::{Arrival, World};
 use memory_world::{Given, MemoryWorld};
-use px_base::{Bytes, List as ListOf, Memory};
-use rule_lang::{Leaf, Matcher};
+use px_base::{Bytes, Memory};
 use std::alloc::{AllocError, Global};
 use std::process::Abort;
 use std::sync::{Arc, Wait};
@@ -32,26 +31,11 @@ fn bytes(alloc: Global, text: &str) -> Result<Bytes, Memory> {
 }
 
 // Each path leads to one server.
-fn configuration(alloc: Global) -> Result<Generation, Memory> {
-    let target = Target {
-        node: 0,
-        host: bytes(alloc, "127.0.0.1")?,
-        port: 9000,
-        pass_host: true,
-    };
-    let rule = Leaf {
-        matcher: Matcher::PathPrefix,
-        value: bytes(alloc, "/")?,
-    };
-    let mut routes = ListOf::new(alloc);
-    routes.push(Route {
-        row: 0,
-        name: bytes(alloc, "r@file")?,
-        rule,
-        priority: 15,
-        target,
-    })?;
-    Ok(Generation::new(1, routes))
+fn configuration(alloc: Global) -> Result<Generation, Fail> {
+    match one_router(alloc, 1, b"PathPrefix(`/`)", b"http://127.0.0.1:9000")? {
+        Some(generation) => Ok(generation),
+        None => Err(Fail::from("not served")),
+    }
 }
 
 // A client that asks once and ends, and its server's reply.
