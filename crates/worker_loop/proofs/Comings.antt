@@ -1,12 +1,12 @@
 -- A worker's run over arrivals, the clock, waits and stops, and when it is settled.
-use Rattle.std.proofs.Common.{◌≡◌, ◌≢◌, ℕ, ◌<◌, ◌≤◌, List, [], ◌∷◌, ◌++◌, Option, Some, None, refl, sym, ◌∙◌, ap, subst, inl, inr, arith, true, false, Bool}
+use Rattle.std.proofs.Common.{◌≡◌, ◌≢◌, ℕ, ◌<◌, ◌≤◌, List, [], ◌∷◌, ◌++◌, Option, Some, None, refl, sym, ◌∙◌, ap, subst, inl, inr, arith, true, false, Bool, IsTrue, IsSome, ◌↔◌}
 use Rattle.std.specs.Prelude.{IfSome, ◌==◌, Ok, Err}
 use Rattle.std.specs.List.{Contains, flat_map}
 use Rattle.std.proofs.lemmas.Bool.{cases_eq, cases_lt}
 use Rattle.std.proofs.lemmas.Bool.Decides.{nat_tests}
 use Rattle.std.proofs.lemmas.List.{append-nil}
 use Rattle.ip_net.specs.declared.ip.Ip.{Ip}
-use Rattle.slab.specs.Slab.{Slab, get}
+use Rattle.slab.specs.Slab.{Slab, get, ContainsKey}
 use Rattle.link_world.specs.declared.note.Note.{Note}
 use Rattle.link_world.specs.declared.world.Arrival.{Arrival}
 use Rattle.link_world.specs.declared.world.WaitFailed.{WaitFailed}
@@ -340,3 +340,11 @@ stopped_after {l} a b d conns links done did un ends = record {
     notes_on = ends.notes_on;
   };
 }
+
+-- a key at which no value was found
+none_by : (o : Option Conn) → (IsSome o → ⊥) → o ≡ None
+none_by None none = refl
+none_by (Some c) none = absurd (none refl)
+
+pub found_vacant : (conns : Slab Conn) (key : ℕ) (r : Bool) → IsTrue r ↔ ContainsKey conns key → (IsTrue r → ⊥) → get conns key ≡ None
+found_vacant conns key r h none = none_by (get conns key) (λ some. none (h.1 some))

@@ -2,6 +2,7 @@
 ghost use Rattle.std.specs.Prelude.{◌≡◌, ◌≢◌, ◌≤◌, ℕ, List, OnOk, IsOk, None, true};
 ghost use Rattle.link_world.specs.Seen.{Seen};
 ghost use Rattle.conversation.specs.Plans.{Plan};
+ghost use Rattle.desk.specs.Desks.{Grew};
 ghost use Rattle.slab.specs.Slab.{get, slab_len};
 ghost use Rattle.worker_loop.specs.Runs.{Attends, Attended, Runs, Stopping, IsStopping, Unasked};
 ghost use Rattle.desk.specs.Desks.{Desk};
@@ -31,6 +32,7 @@ impl Worker {
         ensures runs { (base : Seen) → Runs base (W.seen world.old) (S.desk shared.old).generations self.old.conns
             → Runs base (W.seen world.new) (S.desk shared.new).generations self.new.conns }
         ensures stops { (W.seen world.new).stops ≡ (W.seen world.old).stops }
+        ensures grew { Grew (S.desk shared.old).generations (S.desk shared.new).generations }
         ensures links { self.new.links ≡ self.old.links }
         ensures fewer { slab_len self.new.conns ≤ slab_len self.old.conns }
         ensures others { (k : ℕ) → k ≢ key → get self.new.conns k ≡ get self.old.conns k }
@@ -40,6 +42,10 @@ impl Worker {
         ensures settled { OnOk result ((k : ℕ) → (k ≢ key → SettledUnder (W.lately world.old) self.old.conns k)
             → SettledUnder (W.lately world.new) self.new.conns k) }
     {
+        // A vacant key is passed over at once: most are.
+        if !self.conns.contains(key) {
+            return Ok(());
+        }
         let Some(mut conn) = self.conns.try_remove(key) else {
             return Ok(());
         };

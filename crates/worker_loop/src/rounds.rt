@@ -3,7 +3,7 @@ ghost use Rattle.std.specs.Prelude.{◌≡◌, ◌≢◌, ◌++◌, ℕ, List, I
 ghost use Rattle.slab.specs.Slab.{Slab, get};
 ghost use Rattle.conn_machine.specs.declared.conn.Conn.{Conn};
 ghost use Rattle.worker_loop.specs.Settled.{EndsOnly, StoppedAfter};
-ghost use Rattle.desk.specs.Desks.{Desk};
+ghost use Rattle.desk.specs.Desks.{Desk, Grew};
 ghost use Rattle.worker_loop.specs.Accounts.{Accounts};
 ghost use Rattle.link_world.specs.Log.{Event};
 ghost use Rattle.link_world.specs.Seen.{Seen, Rose};
@@ -47,6 +47,10 @@ pub fn run_worker<R: Wait, W: World, S: Shared>(
     // Where the world tells its log, each connection whose end this run noted was served.
     ensures served { (ran : List Event) × ((W.seen world.new).log ≡ extended (W.seen world.old).log ran)
         × IfSome (W.seen world.old).log (λ before. EndsServed (W.seen world.old) (W.seen world.new) (S.desk shared.new).generations before ran) }
+
+    // The generations that the desk had seen come first among those that it has seen.
+    ensures grew { Grew (S.desk shared.old).generations (S.desk shared.new).generations }
+
     // No connection is open any more.
     ensures ended { (k : ℕ) → get worker.new.conns k ≡ None }
 

@@ -5,7 +5,7 @@ ghost use Rattle.link_world.specs.Seen.{Seen, CloseDid};
 ghost use Rattle.link_world.specs.Lately.{OnlyAt};
 ghost use Rattle.conversation.specs.Plans.{Plan};
 ghost use Rattle.worker_loop.specs.Runs.{Attends, Attended, Runs, Began};
-ghost use Rattle.desk.specs.Desks.{Desk};
+ghost use Rattle.desk.specs.Desks.{Desk, Grew};
 ghost use Rattle.worker_loop.specs.Accounts.{Accounts};
 ghost use Rattle.worker_loop.specs.Settled.{SettledUnder, AllSettled, TurnDone, SameTurn};
 
@@ -61,6 +61,7 @@ impl Worker {
         ensures runs { (base : Seen) → Runs base (W.seen world.old) (S.desk shared.old).generations self.old.conns
             → Runs base (W.seen world.new) (S.desk shared.new).generations self.new.conns }
         ensures stops { (W.seen world.new).stops ≡ (W.seen world.old).stops }
+        ensures grew { Grew (S.desk shared.old).generations (S.desk shared.new).generations }
         ensures links { self.new.links ≡ self.old.links }
 
         // No more clients are served at a time than may be.
@@ -96,6 +97,7 @@ impl Worker {
         ensures runs { (base : Seen) → Runs base (W.seen world.old) (S.desk shared.old).generations self.old.conns
             → Runs base (W.seen world.new) (S.desk shared.new).generations self.new.conns }
         ensures stops { (W.seen world.new).stops ≡ (W.seen world.old).stops }
+        ensures grew { Grew (S.desk shared.old).generations (S.desk shared.new).generations }
         ensures links { self.new.links ≡ self.old.links }
         ensures fewer { slab_len self.new.conns ≤ slab_len self.old.conns }
         ensures turn { SameTurn (W.lately world.old) (W.lately world.new) }
@@ -122,6 +124,7 @@ impl Worker {
         ensures runs { (base : Seen) → Runs base (W.seen world.old) (S.desk shared.old).generations self.old.conns
             → Runs base (W.seen world.new) (S.desk shared.new).generations self.new.conns }
         ensures stops { (W.seen world.new).stops ≡ (W.seen world.old).stops }
+        ensures grew { Grew (S.desk shared.old).generations (S.desk shared.new).generations }
         ensures links { self.new.links ≡ self.old.links }
         ensures more { slab_len self.new.conns ≤ slab_len self.old.conns + 1 }
         ensures clocked { (W.lately world.new).clocked ≡ (W.lately world.old).clocked }

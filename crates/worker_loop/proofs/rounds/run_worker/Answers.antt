@@ -1,5 +1,6 @@
-use Rattle.std.proofs.Common.{ℕ, sym, ◌∙◌, refl, subst, ap}
-use Rattle.link_world.specs.Seen.{Seen}
+use Rattle.std.proofs.Common.{◌≡◌, ℕ, rules, sym, ◌∙◌, refl, arith, subst, ap}
+use Rattle.link_world.specs.Seen.{Rose, Seen}
+use Rattle.conn_service.proofs.Lists.{grew_none, grew_twice}
 use Rattle.worker_loop.proofs.Servings.{runs_none, runs_attends, run_served, step_same}
 use Rattle.worker_loop.proofs.Accountings.{accounts_same, accounts_wait, accounts_failed, accounts_stop}
 use Rattle.worker_loop.proofs.Comings.{step_stop, step_wait, step_failed, stop_rose, wait_rose, wait_stops, stopped_after, rose_kept, fault_kept}
@@ -7,7 +8,7 @@ use Rattle.worker_loop.specs.Settled.{TurnDone}
 use Rattle.worker_loop.proofs.rounds.run_worker.Goals as goal
 
 pub loop-init : goal.loop-init
-loop-init g c = (tt, tt, runs_none _ _ _ c.requires, refl, λ base from a. a, refl)
+loop-init g c = (tt, tt, runs_none _ _ _ c.requires, refl, λ base from a. a, refl, grew_none (g.S.Shared.desk c.args.shared.now).generations)
 
 pub turn-requires : goal.turn-requires
 turn-requires g c = runs_attends c.loop.invariant.2
@@ -44,7 +45,7 @@ returns-in-Err-clause-fault g c = λ is.
     fault_kept (g.W.World.seen c.args.world.now) (g.W.World.seen c.stop_asked.new.self) (g.W.World.seen c.wait.new.self) (g.W.World.seen c.finish-in-Err.new.world) r.waits (wait_rose (g.W.World.seen c.stop_asked.new.self) (g.W.World.seen c.wait.new.self) _ c.in-Err.ensures.seen) c.finish-in-Err.ensures.unasked
 
 pub loop-preserved : goal.loop-preserved
-loop-preserved g c = (tt, tt, step_wait c.in_default-wait.ensures.seen (step_same c.if-stop_asked.ensures.seen (c.turn.ensures.runs _ c.loop.invariant.2)), wait_stops (g.W.World.seen c.stop_asked.new.self) (g.W.World.seen c.wait.new.self) c.in_default-wait.ensures.seen ∙ ap (λ (s : Seen). s.stops) c.if-stop_asked.ensures.seen ∙ c.turn.ensures.stops ∙ c.loop.invariant.3, λ base from a. accounts_wait c.in_default-wait.ensures.seen (accounts_same c.if-stop_asked.ensures.seen (c.in-Ok.ensures.accounts base from (c.loop.invariant.4 base from a))), c.turn.ensures.links ∙ c.loop.invariant.5)
+loop-preserved g c = (tt, tt, step_wait c.in_default-wait.ensures.seen (step_same c.if-stop_asked.ensures.seen (c.turn.ensures.runs _ c.loop.invariant.2)), wait_stops (g.W.World.seen c.stop_asked.new.self) (g.W.World.seen c.wait.new.self) c.in_default-wait.ensures.seen ∙ ap (λ (s : Seen). s.stops) c.if-stop_asked.ensures.seen ∙ c.turn.ensures.stops ∙ c.loop.invariant.3, λ base from a. accounts_wait c.in_default-wait.ensures.seen (accounts_same c.if-stop_asked.ensures.seen (c.in-Ok.ensures.accounts base from (c.loop.invariant.4 base from a))), c.turn.ensures.links ∙ c.loop.invariant.5, grew_twice _ _ _ c.loop.invariant.6 c.turn.ensures.grew)
 
 pub returns-then-stop_asked-clause-accounts : goal.returns-then-stop_asked-clause-accounts
 returns-then-stop_asked-clause-accounts g c = λ base from not_memory a.
@@ -60,3 +61,12 @@ returns-then-stop_asked-clause-settled g c = λ is. (
   c.turn.new.self.conns,
   stopped_after (g.W.World.seen c.turn.new.world) (g.W.World.seen c.stop_asked.new.self) (g.W.World.seen c.finish.new.world) c.turn.new.self.conns c.args.worker.now.links (subst (λ (n : ℕ). TurnDone (g.W.World.lately c.turn.new.world) c.turn.new.self.conns n) (c.turn.ensures.links ∙ c.loop.invariant.5) c.in-Ok.ensures.done) c.if-stop_asked.ensures.seen c.finish.ensures.unasked c.finish.ensures.ends,
 )
+
+pub returns-in_default-clause-grew : goal.returns-in_default-clause-grew
+returns-in_default-clause-grew g c = grew_twice _ _ _ c.loop.invariant.6 c.turn.ensures.grew
+
+pub returns-then-stop_asked-clause-grew : goal.returns-then-stop_asked-clause-grew
+returns-then-stop_asked-clause-grew g c = grew_twice _ _ _ c.loop.invariant.6 c.turn.ensures.grew
+
+pub returns-in-Err-clause-grew : goal.returns-in-Err-clause-grew
+returns-in-Err-clause-grew g c = grew_twice _ _ _ c.loop.invariant.6 c.turn.ensures.grew

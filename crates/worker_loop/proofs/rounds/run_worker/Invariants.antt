@@ -1,6 +1,6 @@
 use Rattle.std.proofs.Common.{◌≡◌}
 use Rattle.link_world.specs.Seen.{Seen}
-use Rattle.desk.specs.Desks.{Desk}
+use Rattle.desk.specs.Desks.{Desk, Grew}
 use Rattle.worker_loop.specs.Accounts.{Accounts}
 use Rattle.worker_loop.specs.Runs.{Runs}
 use Rattle.worker_loop.proofs.rounds.run_worker.Given as goal
@@ -12,3 +12,4 @@ invariant-loop g l =
     × ((g.W.World.seen l.world).stops ≡ (g.W.World.seen l.fn.world).stops)
     × ((base : Seen) (from : Desk) → Accounts base (g.W.World.seen l.fn.world) from (g.S.Shared.desk l.fn.shared) l.fn.worker.conns → Accounts base (g.W.World.seen l.world) from (g.S.Shared.desk l.shared) l.worker.conns)
     × (l.worker.links ≡ l.fn.worker.links)
+    × Grew (g.S.Shared.desk l.fn.shared).generations (g.S.Shared.desk l.shared).generations

@@ -1,10 +1,11 @@
-use Rattle.std.proofs.Common.{◌∙◌, refl, arith}
+use Rattle.std.proofs.Common.{◌≡◌, ◌≢◌, ℕ, ap, sym, ◌∙◌, refl, arith, rules}
+use Rattle.conn_service.proofs.Lists.{grew_none, grew_twice}
 use Rattle.worker_loop.proofs.Servings.{runs_none, runs_attends, past_slots}
 use Rattle.worker_loop.proofs.Comings.{all_settled}
 use Rattle.worker_loop.proofs.worker.Worker.serve_all.Goals as goal
 
 pub loop-key-init : goal.loop-key-init
-loop-key-init g c = (λ base r. r, refl, record { clocked = refl; no_more = refl }, λ k lt. absurd (omega arith), λ k le. past_slots c.args.self.now.conns.slots k (omega (arith, c.capacity-end.ensures.slots, le)), refl, λ base from a. a, omega arith)
+loop-key-init g c = (λ base r. r, refl, record { clocked = refl; no_more = refl }, λ k lt. absurd (omega arith), λ k le. past_slots c.args.self.now.conns.slots k (omega (arith, c.capacity-end.ensures.slots, le)), refl, λ base from a. a, omega arith, grew_none (g.S.Shared.desk c.args.shared.now).generations)
 
 pub serve_key-requires : goal.serve_key-requires
 serve_key-requires g c = runs_attends (c.loop-key.invariant.0 _ (runs_none _ _ _ c.requires))
@@ -24,6 +25,7 @@ loop-key-preserved g c =
       c.serve_key.ensures.stops ∙ c.loop-key.invariant.5,
       λ base from a. c.in_ok-serve_key.ensures.accounts base from (c.loop-key.invariant.6 base from a),
       omega (arith, c.serve_key.ensures.fewer, c.loop-key.invariant.7),
+      grew_twice _ _ _ c.loop-key.invariant.8 c.serve_key.ensures.grew,
     )
 
 pub returns-clause-settled : goal.returns-clause-settled
@@ -31,3 +33,9 @@ returns-clause-settled g c = all_settled c.loop-key.self.conns c.capacity-end.re
 
 pub returns-clause-accounts : goal.returns-clause-accounts
 returns-clause-accounts g c = c.loop-key.invariant.6
+
+pub returns-in_err-serve_key-clause-grew : goal.returns-in_err-serve_key-clause-grew
+returns-in_err-serve_key-clause-grew g c = grew_twice _ _ _ c.loop-key.invariant.8 c.serve_key.ensures.grew
+
+pub returns-clause-grew : goal.returns-clause-grew
+returns-clause-grew g c = c.loop-key.invariant.8

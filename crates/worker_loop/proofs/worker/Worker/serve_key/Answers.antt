@@ -1,8 +1,9 @@
 use Rattle.std.proofs.Common.{rules, ◌≡◌, sym, ◌∙◌, ap, refl}
 use Rattle.slab.specs.Slab.{get}
+use Rattle.conn_service.proofs.Lists.{grew_none}
 use Rattle.worker_loop.proofs.Servings.{step_open, step_over, step_lost, lost_stops, unfinished, moved, strayed}
 use Rattle.worker_loop.proofs.Accountings.{accounts_open, accounts_over}
-use Rattle.worker_loop.proofs.Comings.{went_only, went_turn, lost_turn, settled_key, settled_gone, settled_here, settled_vacant}
+use Rattle.worker_loop.proofs.Comings.{went_only, went_turn, lost_turn, settled_key, settled_gone, settled_here, settled_vacant, found_vacant}
 use Rattle.worker_loop.proofs.worker.Worker.serve_key.Goals as goal
 
 pub serve-requires-clause-ready : goal.serve-requires-clause-ready
@@ -79,3 +80,21 @@ returns-then-not-is_finished-clause-accounts g c = λ base from.
 pub returns-else-not-is_finished-clause-accounts : goal.returns-else-not-is_finished-clause-accounts
 returns-else-not-is_finished-clause-accounts g c = λ base from.
     accounts_over c.args.self.now.conns c.try_remove.new.self c.args.key c.requires.1 (sym c.in-Some.ensures.value) c.in_ok-serve.ensures.went (c.if-not-is_finished.ensures.finished.0 (search rules)) c.in-Some.ensures.updates.changed c.in-Some.ensures.updates.others
+
+pub returns-in_err-serve-clause-grew : goal.returns-in_err-serve-clause-grew
+returns-in_err-serve-clause-grew g c = (c.in_err-serve.ensures.lost).1.desk.grew
+
+pub returns-then-not-is_finished-clause-grew : goal.returns-then-not-is_finished-clause-grew
+returns-then-not-is_finished-clause-grew g c = (c.in_ok-serve.ensures.went).desk.grew
+
+pub returns-else-not-is_finished-clause-grew : goal.returns-else-not-is_finished-clause-grew
+returns-else-not-is_finished-clause-grew g c = (c.in_ok-serve.ensures.went).desk.grew
+
+pub returns-in_default-clause-grew : goal.returns-in_default-clause-grew
+returns-in_default-clause-grew g c = grew_none (g.S.Shared.desk c.args.shared.now).generations
+
+pub returns-then-not-contains-clause-turn : goal.returns-then-not-contains-clause-turn
+returns-then-not-contains-clause-turn g c = record { clocked = refl; no_more = refl }
+
+pub returns-then-not-contains-clause-settled : goal.returns-then-not-contains-clause-settled
+returns-then-not-contains-clause-settled g c = settled_vacant c.args.self.now.conns c.args.self.now.conns c.args.key (found_vacant c.args.self.now.conns c.args.key c.contains.result c.contains.ensures (search rules)) (λ k ne. refl)

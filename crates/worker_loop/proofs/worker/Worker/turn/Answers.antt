@@ -1,5 +1,6 @@
 use Rattle.std.proofs.Common.{ap, ◌∙◌, inl, arith, rules}
 use Rattle.link_world.specs.Lately.{Lately}
+use Rattle.conn_service.proofs.Lists.{grew_twice}
 use Rattle.worker_loop.proofs.Servings.{runs_none, runs_attends}
 use Rattle.worker_loop.proofs.Accountings.{accounts_clock}
 use Rattle.worker_loop.proofs.Comings.{step_clock, clock_stops}
@@ -15,7 +16,7 @@ pub returns-in_err-serve_all-clause-stops : goal.returns-in_err-serve_all-clause
 returns-in_err-serve_all-clause-stops g c = c.serve_all.ensures.stops ∙ clock_stops c.now.result c.now.ensures.seen
 
 pub loop-init : goal.loop-init
-loop-init g c = (tt, tt, λ base r. c.serve_all.ensures.runs base (step_clock c.now.result c.now.ensures.seen r), c.serve_all.ensures.turn.clocked ∙ ap (λ (l : Lately). l.clocked) c.now.ensures.lately, c.in_ok-serve_all.ensures.settled, c.serve_all.ensures.stops ∙ clock_stops c.now.result c.now.ensures.seen, c.serve_all.ensures.links, λ base from a. c.in_ok-serve_all.ensures.accounts base from (accounts_clock c.now.result c.now.ensures.seen a), λ most. let le = c.serve_all.ensures.fewer in let same = c.serve_all.ensures.links in omega (arith, most, le, same))
+loop-init g c = (tt, tt, λ base r. c.serve_all.ensures.runs base (step_clock c.now.result c.now.ensures.seen r), c.serve_all.ensures.turn.clocked ∙ ap (λ (l : Lately). l.clocked) c.now.ensures.lately, c.in_ok-serve_all.ensures.settled, c.serve_all.ensures.stops ∙ clock_stops c.now.result c.now.ensures.seen, c.serve_all.ensures.links, λ base from a. c.in_ok-serve_all.ensures.accounts base from (accounts_clock c.now.result c.now.ensures.seen a), λ most. let le = c.serve_all.ensures.fewer in let same = c.serve_all.ensures.links in omega (arith, most, le, same), c.serve_all.ensures.grew)
 
 pub welcome-requires : goal.welcome-requires
 welcome-requires g c = runs_attends (c.loop.invariant.2 _ (runs_none _ _ _ c.requires))
@@ -28,10 +29,19 @@ returns-then-not-branch-clause-done g c = record {
 }
 
 pub loop-preserved : goal.loop-preserved
-loop-preserved g c = (tt, tt, λ base r. c.welcome.ensures.runs base (c.loop.invariant.2 base r), c.welcome.ensures.clocked ∙ c.loop.invariant.3, c.in_ok-welcome.ensures.settled c.loop.invariant.4, c.welcome.ensures.stops ∙ c.loop.invariant.5, c.welcome.ensures.links ∙ c.loop.invariant.6, λ base from a. c.in_ok-welcome.ensures.accounts base from (c.loop.invariant.7 base from a), λ most. let le = c.welcome.ensures.more in let same = c.welcome.ensures.links in let lt = c.if-len-self.false in let len = c.len.ensures in omega (arith, le, same, lt, len))
+loop-preserved g c = (tt, tt, λ base r. c.welcome.ensures.runs base (c.loop.invariant.2 base r), c.welcome.ensures.clocked ∙ c.loop.invariant.3, c.in_ok-welcome.ensures.settled c.loop.invariant.4, c.welcome.ensures.stops ∙ c.loop.invariant.5, c.welcome.ensures.links ∙ c.loop.invariant.6, λ base from a. c.in_ok-welcome.ensures.accounts base from (c.loop.invariant.7 base from a), λ most. let le = c.welcome.ensures.more in let same = c.welcome.ensures.links in let lt = c.if-len-self.false in let len = c.len.ensures in omega (arith, le, same, lt, len), grew_twice _ _ _ c.loop.invariant.9 c.welcome.ensures.grew)
 
 pub returns-then-len-self-clause-accounts : goal.returns-then-len-self-clause-accounts
 returns-then-len-self-clause-accounts g c = c.loop.invariant.7
 
 pub returns-then-not-branch-clause-accounts : goal.returns-then-not-branch-clause-accounts
 returns-then-not-branch-clause-accounts g c = λ base from a. c.in_ok-welcome.ensures.accounts base from (c.loop.invariant.7 base from a)
+
+pub returns-in_err-welcome-clause-grew : goal.returns-in_err-welcome-clause-grew
+returns-in_err-welcome-clause-grew g c = grew_twice _ _ _ c.loop.invariant.9 c.welcome.ensures.grew
+
+pub returns-then-not-branch-clause-grew : goal.returns-then-not-branch-clause-grew
+returns-then-not-branch-clause-grew g c = grew_twice _ _ _ c.loop.invariant.9 c.welcome.ensures.grew
+
+pub returns-then-len-self-clause-grew : goal.returns-then-len-self-clause-grew
+returns-then-len-self-clause-grew g c = c.loop.invariant.9

@@ -1,7 +1,7 @@
 use Rattle.std.proofs.Common.{◌≡◌, ◌≤◌, true}
 use Rattle.slab.specs.Slab.{slab_len}
 use Rattle.link_world.specs.Seen.{Seen}
-use Rattle.desk.specs.Desks.{Desk}
+use Rattle.desk.specs.Desks.{Desk, Grew}
 use Rattle.worker_loop.specs.Accounts.{Accounts}
 use Rattle.worker_loop.specs.Runs.{Runs}
 use Rattle.worker_loop.specs.Settled.{AllSettled}
@@ -17,3 +17,4 @@ invariant-loop g l =
     × (l.self.links ≡ l.fn.self.links)
     × ((base : Seen) (from : Desk) → Accounts base (g.W.World.seen l.fn.world) from (g.S.Shared.desk l.fn.shared) l.fn.self.conns → Accounts base (g.W.World.seen l.world) from (g.S.Shared.desk l.shared) l.self.conns)
     × (slab_len l.fn.self.conns ≤ l.fn.self.links → slab_len l.self.conns ≤ l.self.links)
+    × Grew (g.S.Shared.desk l.fn.shared).generations (g.S.Shared.desk l.shared).generations

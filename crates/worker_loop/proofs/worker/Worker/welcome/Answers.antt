@@ -1,3 +1,5 @@
+use Rattle.std.proofs.Common.{◌≡◌, ◌≢◌, ℕ, ap, sym, ◌∙◌, refl, arith, rules}
+use Rattle.conn_service.proofs.Lists.{grew_none}
 use Rattle.worker_loop.proofs.Servings.{runs_none, runs_attends}
 use Rattle.worker_loop.proofs.worker.Worker.welcome.Goals as goal
 
@@ -12,3 +14,9 @@ returns-in_default-clause-accounts g c = λ base from. c.in_ok-key.ensures.accou
 
 pub returns-clause-accounts : goal.returns-clause-accounts
 returns-clause-accounts g c = λ base from a. c.in_ok-serve_key.ensures.accounts base from (c.in_ok-key.ensures.accounts base from (g.S.Shared.desk c.args.shared.now) a)
+
+pub returns-in_err-key-clause-grew : goal.returns-in_err-key-clause-grew
+returns-in_err-key-clause-grew g c = grew_none (g.S.Shared.desk c.args.shared.now).generations
+
+pub returns-in_default-clause-grew : goal.returns-in_default-clause-grew
+returns-in_default-clause-grew g c = grew_none (g.S.Shared.desk c.args.shared.now).generations
