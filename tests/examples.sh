@@ -20,7 +20,8 @@ expect 0 'forward r@file http://127.0.0.1:9000' examples/first.toml < examples/f
 expect 0 'forward admin@file http://10.0.0.9:8080' examples/shop.toml < <(head_for shop.test /admin)
 expect 0 'forward shop@file http://10.0.0.1:80' examples/shop.toml < <(head_for shop.test /)
 expect 0 '404' examples/shop.toml < <(head_for nobody.test /)
-expect 4 'request Later' examples/shop.toml < <(head_for shop.test /%2)
+expect 0 'forward admin@file http://10.0.0.9:8080' examples/shop.toml < <(head_for shop.test /a/%2e%2e/adm%69n)
+expect 4 'request BadEscape' examples/shop.toml < <(head_for shop.test /%2)
 expect 3 'config NotToml' README.md < <(head_for shop.test /)
 expect 5 '' examples/no-such-file.toml < <(head_for shop.test /)
 exit "$status"

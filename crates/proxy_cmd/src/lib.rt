@@ -2,13 +2,8 @@
 #![tactic(auto)]
 
 mod commands;
-mod config;
-mod lines;
-mod server;
-mod table;
 #[cfg(test)]
 mod tests;
-mod winner;
-mod words;
+mod usage;
 
 pub use commands::offline;

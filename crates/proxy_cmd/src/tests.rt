@@ -1,6 +1,7 @@
 //! Whole commands over memory, with ample memory: a body that always wants more would be proved, and is refused here.
 use crate::offline;
 use px_base::{MemorySink, MemorySource};
+use rule_eval::RegexShop;
 use std::alloc::Global;
 use std::process::Abort;
 use std::test::Fail;
@@ -12,19 +13,41 @@ service = \"s\"
 url = \"http://127.0.0.1:9000\"
 ";
 
-const THREE: &str = "[http.routers.z]
-rule = \"Host(`A.Test.`)\"
+const RULES: &str = "[http.routers.whole]
+rule = \"Host(`A.example`) && !Path(`/x`)\"
+service = \"s\"
+[http.routers.admin]
+rule = \"Path(`/admin`)\"
+service = \"s\"
+[http.routers.bad]
+rule = \"Host(`a`, `b`)\"
+priority = 1000
+service = \"s\"
+[http.routers.local]
+rule = \"ClientIP(`10.0.0.0/8`)\"
+entryPoints = [\"side\"]
+service = \"t\"
+[[http.services.s.loadBalancer.servers]]
+url = \"http://s_1.test/path\"
+[[http.services.t.loadBalancer.servers]]
+url = \"http://[::1]:0065535\"
+";
+
+const PRIORITIES: &str = "[http.routers.x]
+rule = \"PathPrefix(`/`)\"
+priority = -1
+service = \"s\"
+[http.routers.y]
+rule = \"PathPrefix(`/`)\"
 service = \"s\"
 [http.routers.a-b]
 rule = \"Path(`/x/y/z/w`)\"
-service = \"t\"
+service = \"s\"
 [http.routers.a]
 rule = \"Path(`/x/y/z/w`)\"
 service = \"s\"
 [[http.services.s.loadBalancer.servers]]
-url = \"http://s_1.test\"
-[[http.services.t.loadBalancer.servers]]
-url = \"http://t:0065535\"
+url = \"http://s\"
 ";
 
 const HEAD: &str = "GET / HTTP/1.1\r\nHost: a.test\r\n\r\n";
@@ -73,7 +96,15 @@ fn expect(
     let mut config = source_of(alloc, call.file, call.file_failing)?;
     let mut input = source_of(alloc, call.input, call.input_failing)?;
     let mut out = MemorySink::new(alloc, Vec::from_slice(alloc, call.out_failing)?);
-    let got = offline(alloc, words.as_slice(), &mut config, &mut input, &mut out);
+    let mut shop = RegexShop::new(alloc);
+    let got = offline(
+        alloc,
+        words.as_slice(),
+        &mut config,
+        &mut input,
+        &mut out,
+        &mut shop,
+    );
     assert_eq!(rt; out.held(), text.as_bytes());
     assert_eq!(rt; got, status);
     Ok(())
@@ -101,56 +132,129 @@ fn blanks(alloc: Global, count: usize) -> Result<Vec<u8>, Fail> {
     Ok(bytes)
 }
 
-// Files and heads that are read whole.
-fn answers(rt: &impl Abort, alloc: Global) -> Result<(), Fail> {
-    for (file, input, status, text) in [
-        (ONE, HEAD, 0, "forward r@file http://127.0.0.1:9000\n"),
-        ("", HEAD, 0, "404\n"),
-        // The longer rule wins; of two as long, the smaller name with its provider, in which `-` comes before `@`.
-        (
-            THREE,
-            "GET /x/y/z/w HTTP/1.1\r\nHost: a.TEST.:80\r\n\r\n",
-            0,
-            "forward a-b@file http://t:65535\n",
-        ),
-        (
-            THREE,
-            "GET /x HTTP/1.1\r\nhost: a.test\r\n\r\n",
-            0,
-            "forward z@file http://s_1.test:80\n",
-        ),
-        (THREE, "GET /x HTTP/1.1\r\nHost: b.test\r\n\r\n", 0, "404\n"),
-        ("a = [", HEAD, 3, "config NotToml\n"),
-        ("a = 1\n", HEAD, 3, "config Later\n"),
-        (
-            "[http.routers.r]\nrule = \"Path(`/`)\"\nservice = \"s\"\n",
-            HEAD,
-            3,
-            "config Later\n",
-        ),
-        (ONE, "", 4, "request Later\n"),
-        (
-            ONE,
-            "GET /%2 HTTP/1.1\r\nHost: a.test\r\n\r\n",
-            4,
-            "request Later\n",
-        ),
-        (
-            ONE,
-            "GET / HTTP/1.1\r\nHost: a.test\r\n\r\nX",
-            4,
-            "request Later\n",
-        ),
-    ] {
-        expect(
-            rt,
-            alloc,
-            route(file.as_bytes(), input.as_bytes()),
-            status,
-            text,
-        )?;
-    }
-    Ok(())
+// A call that fails nowhere.
+fn told(
+    rt: &impl Abort,
+    alloc: Global,
+    file: &str,
+    input: &str,
+    status: u8,
+    text: &str,
+) -> Result<(), Fail> {
+    expect(
+        rt,
+        alloc,
+        route(file.as_bytes(), input.as_bytes()),
+        status,
+        text,
+    )
+}
+
+// Where requests go.
+fn routed(rt: &impl Abort, alloc: Global) -> Result<(), Fail> {
+    told(
+        rt,
+        alloc,
+        ONE,
+        HEAD,
+        0,
+        "forward r@file http://127.0.0.1:9000\n",
+    )?;
+    told(rt, alloc, "", HEAD, 0, "404\n")?;
+    let shop = "GET /y HTTP/1.1\r\nHost: a.EXAMPLE:8080\r\n\r\n";
+    told(
+        rt,
+        alloc,
+        RULES,
+        shop,
+        0,
+        "forward whole@file http://s_1.test:80\n",
+    )?;
+    let other = "GET /x HTTP/1.1\r\nHost: a.EXAMPLE:8080\r\n\r\n";
+    told(rt, alloc, RULES, other, 0, "404\n")?;
+    let admin = "GET /a/%2e%2e/adm%69n HTTP/1.1\r\nHost: a\r\n\r\n";
+    told(
+        rt,
+        alloc,
+        RULES,
+        admin,
+        0,
+        "forward admin@file http://s_1.test:80\n",
+    )
+}
+
+// The greater priority wins, then the smaller name with its provider, in which `-` comes before `@`.
+fn priorities(rt: &impl Abort, alloc: Global) -> Result<(), Fail> {
+    told(
+        rt,
+        alloc,
+        PRIORITIES,
+        HEAD,
+        0,
+        "forward y@file http://s:80\n",
+    )?;
+    let deep = "GET /x/y/z/w HTTP/1.1\r\nHost: a\r\n\r\n";
+    told(
+        rt,
+        alloc,
+        PRIORITIES,
+        deep,
+        0,
+        "forward a-b@file http://s:80\n",
+    )
+}
+
+// The entry point and the peer.
+fn options(rt: &impl Abort, alloc: Global) -> Result<(), Fail> {
+    let mut call = route(RULES.as_bytes(), HEAD.as_bytes());
+    call.words = &["route", "--peer=10.1.2.3", "c.toml", "--entry", "side"];
+    expect(
+        rt,
+        alloc,
+        call,
+        0,
+        "forward local@file http://[::1]:65535\n",
+    )?;
+    call.words = &["route", "c.toml", "--peer", "10.1.2.3"];
+    expect(rt, alloc, call, 0, "404\n")
+}
+
+// Files that are no configuration.
+fn refused_files(rt: &impl Abort, alloc: Global) -> Result<(), Fail> {
+    told(rt, alloc, "a = [", HEAD, 3, "config NotToml\n")?;
+    told(rt, alloc, "a = 1\n", HEAD, 3, "config Unknown a\n")?;
+    let twice = "[http.routers.r]\nrule = \"a\"\nRule = \"b\"\n";
+    told(
+        rt,
+        alloc,
+        twice,
+        HEAD,
+        3,
+        "config Twice http.routers.r.rule\n",
+    )?;
+    let later = "[http.middlewares.m.addPrefix]\nprefix = \"/a\"\n";
+    told(rt, alloc, later, HEAD, 3, "config Later\n")?;
+    let two = "[http.services.s.loadBalancer]\n";
+    told(rt, alloc, two, HEAD, 3, "config Later\n")
+}
+
+// Inputs that are no request that is routed.
+fn refused_requests(rt: &impl Abort, alloc: Global) -> Result<(), Fail> {
+    told(rt, alloc, ONE, "", 4, "request Part\n")?;
+    let escape = "GET /%2 HTTP/1.1\r\nHost: a\r\n\r\n";
+    told(rt, alloc, ONE, escape, 4, "request BadEscape\n")?;
+    told(
+        rt,
+        alloc,
+        ONE,
+        "GET / HTTP/1.1\r\n\r\n",
+        4,
+        "request NoHost\n",
+    )?;
+    let behind = "GET / HTTP/1.1\r\nHost: a\r\n\r\nX";
+    told(rt, alloc, ONE, behind, 4, "request Trailing\n")?;
+    let old = "GET / HTTP/1.0\r\n\r\n";
+    told(rt, alloc, ONE, old, 4, "request Later\n")
 }
 
 // Words that are no command, whatever the sources would give.
@@ -159,7 +263,7 @@ fn usages(rt: &impl Abort, alloc: Global) -> Result<(), Fail> {
     usage(rt, alloc, &["route"])?;
     usage(rt, alloc, &["route", "-x"])?;
     usage(rt, alloc, &["route", "a", "b"])?;
-    usage(rt, alloc, &["Route", "a"])
+    usage(rt, alloc, &["route", "a", "--entry", ""])
 }
 
 fn usage(rt: &impl Abort, alloc: Global, words: &[&str]) -> Result<(), Fail> {
@@ -184,7 +288,7 @@ fn failures(rt: &impl Abort, alloc: Global) -> Result<(), Fail> {
     expect(rt, alloc, call, 5, "")?;
     // A file that is refused comes first.
     call.file = b"a = 1";
-    expect(rt, alloc, call, 3, "config Later\n")?;
+    expect(rt, alloc, call, 3, "config Unknown a\n")?;
     let mut call = route(ONE.as_bytes(), HEAD.as_bytes());
     call.out_failing = &[1];
     expect(rt, alloc, call, 6, "")
@@ -202,7 +306,7 @@ fn limits(rt: &impl Abort, alloc: Global) -> Result<(), Fail> {
         alloc,
         route(ONE.as_bytes(), &input),
         4,
-        "request Later\n",
+        "request BadHead\n",
     )?;
     let input = blanks(alloc, 16_385)?;
     expect(rt, alloc, route(ONE.as_bytes(), &input), 8, "too long\n")
@@ -211,7 +315,16 @@ fn limits(rt: &impl Abort, alloc: Global) -> Result<(), Fail> {
 #[test]
 fn whole_calls(rt: HostRuntime) -> Result<(), Fail> {
     let alloc = rt.alloc();
-    answers(&rt, alloc)?;
+    routed(&rt, alloc)?;
+    priorities(&rt, alloc)?;
+    options(&rt, alloc)?;
+    refused_files(&rt, alloc)?;
+    refused_requests(&rt, alloc)
+}
+
+#[test]
+fn ends(rt: HostRuntime) -> Result<(), Fail> {
+    let alloc = rt.alloc();
     usages(&rt, alloc)?;
     failures(&rt, alloc)?;
     limits(&rt, alloc)

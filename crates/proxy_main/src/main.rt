@@ -1,8 +1,10 @@
 //! The proxy's program: its commands over real files and streams.
 #![tactic(auto)]
 
+use command_words::{Command, WordFault, read_words};
 use proxy_cmd::offline;
 use px_base::{StdSink, StdSource};
+use rule_eval::RegexShop;
 use std::alloc::{AllocError, Global};
 use std::env;
 use std::fs::{self, File};
@@ -29,14 +31,14 @@ impl Read for ConfigFile {
 }
 
 impl ConfigFile {
-    // The file that the words name: the one after the command.
-    fn open(rt: &HostRuntime, words: &[String]) -> ConfigFile {
-        match words {
-            [_, path] => match fs::open(rt, path.as_str()) {
-                Ok(file) => ConfigFile::Open(file),
-                Err(_) => ConfigFile::Missing,
-            },
-            _ => ConfigFile::Missing,
+    // The file with this path. Paths come from words, so they are UTF-8.
+    fn open(rt: &HostRuntime, path: &[u8]) -> ConfigFile {
+        let Ok(path) = str::from_utf8(path) else {
+            return ConfigFile::Missing;
+        };
+        match fs::open(rt, path) {
+            Ok(file) => ConfigFile::Open(file),
+            Err(_) => ConfigFile::Missing,
         }
     }
 }
@@ -56,15 +58,27 @@ fn words_of(rt: &HostRuntime, alloc: Global) -> Result<Vec<String>, AllocError> 
     Ok(words)
 }
 
+// Runs an offline command over this configuration file, or says how the program is called.
+fn run_offline(rt: &HostRuntime, alloc: Global, words: &[String], config: ConfigFile) -> u8 {
+    let mut config = StdSource::new(config);
+    let mut input = StdSource::new(rt.reader());
+    let mut out = StdSink::new(io::writer(rt));
+    let mut shop = RegexShop::new(alloc);
+    offline(alloc, words, &mut config, &mut input, &mut out, &mut shop)
+}
+
 fn main(rt: HostRuntime) -> ExitCode {
     let alloc = rt.alloc();
-    match words_of(&rt, alloc) {
-        Ok(words) => {
-            let mut config = StdSource::new(ConfigFile::open(&rt, words.as_slice()));
-            let mut input = StdSource::new(rt.reader());
-            let mut out = StdSink::new(io::writer(&rt));
-            ExitCode::from(offline(alloc, words.as_slice(), &mut config, &mut input, &mut out))
+    let Ok(words) = words_of(&rt, alloc) else {
+        return ExitCode::from(NO_MEMORY);
+    };
+    let status = match read_words(alloc, words.as_slice()) {
+        Ok(Command::Route(plan)) => {
+            let config = ConfigFile::open(&rt, plan.config.as_slice());
+            run_offline(&rt, alloc, words.as_slice(), config)
         }
-        Err(_) => ExitCode::from(NO_MEMORY),
-    }
+        Err(WordFault::Memory) => NO_MEMORY,
+        _ => run_offline(&rt, alloc, words.as_slice(), ConfigFile::Missing),
+    };
+    ExitCode::from(status)
 }

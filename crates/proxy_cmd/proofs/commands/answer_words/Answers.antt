@@ -1,12 +1,20 @@
-use Rattle.std.proofs.Common.{refl}
 use Rattle.std.proofs.lemmas.Result.{IfOk-weaker}
-use Rattle.proxy_cmd.specs.Output.{route}
-use Rattle.proxy_cmd.proofs.Ends.{stops_words}
+use Rattle.command_words.specs.declared.command.Command.TheVariants.{Route}
+use Rattle.proxy_cmd.specs.Output.{route, usage}
+use Rattle.proxy_cmd.proofs.Stopped.{stops_words}
 use Rattle.proxy_cmd.proofs.commands.answer_words.Goals as goal
 
-pub returns-then-is_route-clause-told : goal.returns-then-is_route-clause-told
-returns-then-is_route-clause-told g c =
-    IfOk-weaker c.answer_file.result _ _ (λ a h. route (c.if-is_route.ensures.0 refl) h) c.answer_file.ensures.told
+pub returns-in-Ok-Route-clause-told : goal.returns-in-Ok-Route-clause-told
+returns-in-Ok-Route-clause-told g c =
+    let is = rw c.in-Ok-Route.field-0-is at c.in-Ok-Route.ensures in
+    IfOk-weaker c.answer_plan.result _ _ (λ a h. route _ is h) c.answer_plan.ensures.told
 
-pub returns-then-is_route-clause-stop : goal.returns-then-is_route-clause-stop
-returns-then-is_route-clause-stop g c = stops_words _ _ _ _ c.answer_file.result (c.if-is_route.ensures.0 refl) c.answer_file.ensures.stop
+pub returns-in-Ok-Route-clause-stop : goal.returns-in-Ok-Route-clause-stop
+returns-in-Ok-Route-clause-stop g c =
+    let is = rw c.in-Ok-Route.field-0-is at c.in-Ok-Route.ensures in
+    stops_words _ c.in-Ok-Route.plan _ _ _ c.answer_plan.result is c.answer_plan.ensures.stop
+
+pub returns-in-Err-NotACommand-clause-told : goal.returns-in-Err-NotACommand-clause-told
+returns-in-Err-NotACommand-clause-told g c =
+    let never = c.in-Err-NotACommand.ensures c.in-Err-NotACommand.field-0-is in
+    usage (λ plan w. never (Route plan) w) c.in_ok-usage_answer-in-Err-NotACommand.ensures.0 c.in_ok-usage_answer-in-Err-NotACommand.ensures.1

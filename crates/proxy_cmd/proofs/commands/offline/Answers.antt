@@ -1,6 +1,6 @@
 use Rattle.std.proofs.Common.{refl}
 use Rattle.proxy_cmd.specs.Output.{not_read, whole, cut}
-use Rattle.proxy_cmd.proofs.Ends.{keeps_itself}
+use Rattle.proxy_cmd.proofs.Stopped.{keeps_itself}
 use Rattle.proxy_cmd.proofs.commands.offline.Goals as goal
 
 pub returns-in-Ok-write_all-clause-output : goal.returns-in-Ok-write_all-clause-output
