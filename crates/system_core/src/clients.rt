@@ -1,0 +1,114 @@
+// The connections, and the configurations that they are pinned to.
+ghost use Rattle.std.specs.Prelude.{◌≡◌, ◌≤◌, ◌<◌, ◌++◌, ◌∷◌, [], ℕ, Some, None, OnOk, IfSome, IsTrue, ◌↔◌, length, slice_get};
+ghost use Rattle.conversation.specs.Steps.{pinned as pinned_to};
+ghost use Rattle.conversation.specs.Plans.{Plan};
+ghost use Rattle.conn_machine.specs.declared.conn.Conn.{Conn as ConnOf};
+ghost use Rattle.conn_machine.specs.Events.{IsEnabled, IsAsked, shape_of, step_of, number_after};
+ghost use Rattle.system_core.specs.Views.{plan_at, plans_of, waiting_of};
+ghost use Rattle.system_core.specs.Drives.{DrivenAt, CameAt};
+ghost use Rattle.system_core.specs.Happens.{IsLast};
+
+use crate::drive::drive;
+use crate::timeline::Timeline;
+use conn_machine::{Conn, ConnEvent};
+use generation::Generation;
+use ip_net::Ip;
+use link_world::Note;
+use px_base::Memory;
+use std::alloc::Global;
+use std::sync::Arc;
+
+/// The connections in the order in which they came.
+#[derive(Drop)]
+pub(crate) struct Clients {
+    pub(crate) timeline: Timeline,
+    pub(crate) conns: Vec<Conn>,
+    // None was pinned to a configuration above the newest.
+    ghost pinned: { (i : ℕ) (c : ConnOf) → slice_get conns.items i ≡ Some c → c.current.number ≤ length timeline.earlier.items },
+}
+
+impl Clients {
+    pub(crate) fn new(alloc: Global, first: Arc<Generation, Global>) -> Clients
+        requires { (plan_at first).number ≡ 0 }
+        ensures plans { plans_of result.timeline ≡ plan_at first ∷ [] }
+        ensures waiting { waiting_of result.timeline ≡ None }
+        ensures conns { result.conns.items ≡ [] }
+    {
+        Clients {
+            timeline: Timeline::new(alloc, first),
+            conns: Vec::new(alloc),
+        }
+    }
+
+    /// Lets the next configuration wait.
+    pub(crate) fn wait_with(&mut self, issue: Arc<Generation, Global>)
+        requires { (plan_at issue).number ≡ length (plans_of self.old.timeline) }
+        ensures plans { plans_of self.new.timeline ≡ plans_of self.old.timeline }
+        ensures waiting { waiting_of self.new.timeline ≡ Some (plan_at issue) }
+        ensures conns { self.new.conns ≡ self.old.conns }
+    {
+        self.timeline.wait_with(issue);
+    }
+
+    /// Publishes the configuration that waits, where one does.
+    pub(crate) fn publish(&mut self) -> Result<(), Memory>
+        ensures plans { OnOk result (IfSome (waiting_of self.old.timeline) (λ p. plans_of self.new.timeline ≡ plans_of self.old.timeline ++ p ∷ [])) }
+        ensures waiting { OnOk result (waiting_of self.new.timeline ≡ None) }
+        ensures conns { self.new.conns ≡ self.old.conns }
+    {
+        self.timeline.publish()
+    }
+
+    /// A client comes.
+    pub(crate) fn arrive(
+        &mut self,
+        alloc: Global,
+        link: u32,
+        entry: &[u8],
+        peer: Ip,
+    ) -> Result<(), Memory>
+        ensures timeline { self.new.timeline ≡ self.old.timeline }
+        ensures came { OnOk result (CameAt link entry.now peer self.old.conns.items self.new.conns.items) }
+    {
+        self.conns.reserve(1)?;
+        let conn = Conn::new(alloc, link, entry, peer)?;
+        self.conns.push_reserved(conn);
+        Ok(())
+    }
+
+    /// The connection at this place is told an event that may come.
+    pub(crate) fn drive(
+        &mut self,
+        alloc: Global,
+        place: usize,
+        event: ConnEvent<'_>,
+        notes: &mut Vec<Note>,
+    ) -> Result<(), Memory>
+        requires within { place < length self.old.conns.items }
+        requires enabled { IfSome (slice_get self.old.conns.items place) (IsEnabled (shape_of event)) }
+        requires asked { IfSome (slice_get self.old.conns.items place) (IsAsked event) }
+        requires known { number_after event 0 ≤ length self.old.timeline.earlier.items }
+        ensures timeline { self.new.timeline ≡ self.old.timeline }
+        ensures driven { OnOk result (IfSome (slice_get self.old.conns.items place) (λ c.
+            DrivenAt place c (step_of c event.entry) self.old.conns.items self.new.conns.items notes.old.items notes.new.items)) }
+    {
+        drive(alloc, &mut self.conns[place], event, notes)
+    }
+
+    /// The connection at this place is pinned to the newest configuration.
+    pub(crate) fn pin(
+        &mut self,
+        alloc: Global,
+        place: usize,
+        notes: &mut Vec<Note>,
+    ) -> Result<(), Memory>
+        requires within { place < length self.old.conns.items }
+        requires enabled { IfSome (slice_get self.old.conns.items place) (IsEnabled EventShape.Pinned) }
+        ensures timeline { self.new.timeline ≡ self.old.timeline }
+        ensures driven { OnOk result ((p : Plan) × IsLast (plans_of self.old.timeline) p × IfSome (slice_get self.old.conns.items place) (λ c.
+            DrivenAt place c (pinned_to p) self.old.conns.items self.new.conns.items notes.old.items notes.new.items)) }
+    {
+        let issue = self.timeline.last()?;
+        self.drive(alloc, place, ConnEvent::Pinned(issue), notes)
+    }
+}

@@ -1,0 +1,47 @@
+// One event of one connection, and the notes that follow it.
+ghost use Rattle.std.specs.Prelude.{◌≡◌, OnOk};
+ghost use Rattle.conn_machine.specs.Events.{IsEnabled, IsAsked, bytes_of, shape_of, step_of, number_after};
+ghost use Rattle.system_core.specs.Drives.{Told, Driven};
+
+use conn_machine::{Conn, ConnEvent};
+use link_world::Note;
+use px_base::Memory;
+use std::alloc::Global;
+
+/// Tells the connection an event that may come, and keeps the notes that it then has.
+pub(crate) fn drive(
+    alloc: Global,
+    conn: &mut Conn,
+    event: ConnEvent<'_>,
+    notes: &mut Vec<Note>,
+) -> Result<(), Memory>
+    requires enabled { IsEnabled (shape_of event) conn.old }
+    requires asked { IsAsked event conn.old }
+    ensures driven { OnOk result (Driven (step_of conn.old event.entry) conn.old conn.new notes.old.items notes.new.items) }
+    ensures number { OnOk result (conn.new.current.number ≡ number_after event.entry conn.old.current.number) }
+{
+    conn.reserve(bytes_of_event(&event))?;
+    conn.step(alloc, event)?;
+    tell_notes(alloc, conn, notes)
+}
+
+// How many bytes the event adds to the client's buffer.
+fn bytes_of_event(event: &ConnEvent<'_>) -> usize
+    ensures { result ≡ bytes_of event.now }
+{
+    match event {
+        ConnEvent::Bytes(piece) => piece.len(),
+        _ => 0,
+    }
+}
+
+// Takes the notes of the connection.
+fn tell_notes(alloc: Global, conn: &mut Conn, notes: &mut Vec<Note>) -> Result<(), Memory>
+    ensures told { OnOk result (Told conn.old conn.new notes.old.items notes.new.items) }
+    ensures number { OnOk result (conn.new.current.number ≡ conn.old.current.number) }
+{
+    while let Some(note) = conn.take_note(alloc) {
+        notes.push(note)?;
+    }
+    Ok(())
+}
