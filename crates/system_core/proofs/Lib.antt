@@ -1,0 +1,4 @@
+pub mod Places
+pub mod Tellings
+pub mod Links
+pub mod Telling
