@@ -1,6 +1,6 @@
 -- What a machine waits for hasn't come.
-use Rattle.std.proofs.Common.{◌≡◌, ◌≢◌, ℕ, ◌+◌, ◌<◌, List, [], ◌∷◌, ◌++◌, length, take, Option, refl, sym, ◌∙◌, ap, subst, inl, arith, false, lit<}
-use Rattle.std.proofs.lemmas.List.{length-append}
+use Rattle.std.proofs.Common.{◌≡◌, ◌≢◌, ℕ, ◌+◌, ◌-◌, ◌<◌, List, [], ◌∷◌, ◌++◌, length, take, drop, Option, refl, sym, ◌∙◌, ap, subst, inl, arith, false, lit<}
+use Rattle.std.proofs.lemmas.List.{length-append, length-drop}
 use Rattle.httparse.specs.Grammar.{RequestHead, print_request, print_blank, MayBecomeRequest}
 use Rattle.httparse.specs.Pieces.{Completes, BlankLines}
 use Rattle.httparse.proofs.GrammarLemmas.{print_request-append}
@@ -30,10 +30,10 @@ prompt_shut shut = record {
 }
 
 pub prompt_over : {d : Conn} (cause : EndCause) → d.phase ≡ Over cause → IsPrompt d
-prompt_over {d} cause is = prompt_shut {d} (λ e. let f : Over cause ≡ Open = sym is ∙ e in cc)
+prompt_over {d} cause is = prompt_shut {d = d} (λ e. let f : Over cause ≡ Open = sym is ∙ e in cc)
 
 pub prompt_ending : {d : Conn} → IsEnding d.phase → IsPrompt d
-prompt_ending {d} ending = prompt_shut {d} (λ e. let f : IsEnding Open = subst IsEnding e ending in f)
+prompt_ending {d} ending = prompt_shut {d = d} (λ e. let f : IsEnding Open = subst IsEnding e ending in f)
 
 -- it waits for no request, no server and no client
 abbrev pub IsElsewhere : Stage → Type 0
@@ -57,10 +57,10 @@ same_wait p s w = record { phase = sym p ∙ w.phase; stage = sym s ∙ w.stage 
 pub prompt_same : {c d : Conn} → d.phase ≡ c.phase → d.stage ≡ c.stage → d.over ≡ c.over → d.input.items ≡ c.input.items → d.current.back ≡ c.current.back → pending_of d ≡ pending_of c
     → IsPrompt c → IsPrompt d
 prompt_same {c} {d} p s o i b n h = record {
-  goes_on = λ w. o ∙ h.goes_on (same_wait {c} {d} p s w);
-  part = λ w. subst IsPart (sym i) (h.part (same_wait {c} {d} p s w));
-  exchange = λ w. subst IsOpenBack (sym b) (h.exchange (same_wait {c} {d} p s w));
-  reply = λ w e. h.reply (same_wait {c} {d} p s w) (sym n ∙ e);
+  goes_on = λ w. o ∙ h.goes_on (same_wait {c = c} {d = d} p s w);
+  part = λ w. subst IsPart (sym i) (h.part (same_wait {c = c} {d = d} p s w));
+  exchange = λ w. subst IsOpenBack (sym b) (h.exchange (same_wait {c = c} {d = d} p s w));
+  reply = λ w e. h.reply (same_wait {c = c} {d = d} p s w) (sym n ∙ e);
 }
 
 -- its client gave something, and it waits for no request
@@ -68,16 +68,16 @@ pub prompt_else : {c d : Conn} → d.phase ≡ c.phase → d.stage ≡ c.stage �
 prompt_else {c} {d} p s other b n h = record {
   goes_on = λ w. absurd (other w.stage);
   part = λ w. absurd (other w.stage);
-  exchange = λ w. subst IsOpenBack (sym b) (h.exchange (same_wait {c} {d} p s w));
-  reply = λ w e. h.reply (same_wait {c} {d} p s w) (sym n ∙ e);
+  exchange = λ w. subst IsOpenBack (sym b) (h.exchange (same_wait {c = c} {d = d} p s w));
+  reply = λ w e. h.reply (same_wait {c = c} {d = d} p s w) (sym n ∙ e);
 }
 
 -- its client took something, and it doesn't wait for that
 pub prompt_took : {c d : Conn} → d.phase ≡ c.phase → d.stage ≡ c.stage → d.stage ≢ Reply → d.over ≡ c.over → d.input.items ≡ c.input.items → d.current.back ≡ c.current.back → IsPrompt c → IsPrompt d
 prompt_took {c} {d} p s other o i b h = record {
-  goes_on = λ w. o ∙ h.goes_on (same_wait {c} {d} p s w);
-  part = λ w. subst IsPart (sym i) (h.part (same_wait {c} {d} p s w));
-  exchange = λ w. subst IsOpenBack (sym b) (h.exchange (same_wait {c} {d} p s w));
+  goes_on = λ w. o ∙ h.goes_on (same_wait {c = c} {d = d} p s w);
+  part = λ w. subst IsPart (sym i) (h.part (same_wait {c = c} {d = d} p s w));
+  exchange = λ w. subst IsOpenBack (sym b) (h.exchange (same_wait {c = c} {d = d} p s w));
   reply = λ w. absurd (other w.stage);
 }
 
@@ -117,7 +117,7 @@ away_shut shut w = shut w.phase
 
 -- it stands where it stood
 pub keeps_same : {c d : Conn} → d.phase ≡ c.phase → d.stage ≡ c.stage → d.current.link ≡ c.current.link → KeepsServer c d
-keeps_same {c} {d} p s l w = (same_wait {c} {d} p s w, l)
+keeps_same {c} {d} p s l w = (same_wait {c = c} {d = d} p s w, l)
 
 pub keeps_away : {c d : Conn} → ¬ (Waits Exchange d) → KeepsServer c d
 keeps_away away w = absurd (away w)
@@ -145,4 +145,13 @@ part_nil = record {
 }
 
 pub prompt_new : {d : Conn} → d.stage ≡ Head → d.over ≡ false → d.input.items ≡ [] → IsPrompt d
-prompt_new {d} is over none = prompt_head {d} is over (subst IsPart (sym none) part_nil)
+prompt_new {d} is over none = prompt_head {d = d} is over (subst IsPart (sym none) part_nil)
+
+some_left : (n : ℕ) (xs : List ℕ) → n < length xs → drop n xs ≢ []
+some_left n xs lt e =
+    let a : length (drop n xs) ≡ length xs - n = length-drop n xs in
+    let b : length (drop n xs) ≡ length {A = ℕ} [] = ap (length {A = ℕ}) e in
+    omega arith
+
+pub prompt_left : {d : Conn} → d.stage ≡ Reply → d.sent < length d.out.items → IsPrompt d
+prompt_left {d} is lt = prompt_reply {d = d} is (some_left d.sent d.out.items lt)

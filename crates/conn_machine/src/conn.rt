@@ -112,6 +112,7 @@ impl Conn {
         requires room { vec_len self.old.input + length piece.now ≤ vec_capacity self.old.input }
         ensures client { self.new.client ≡ self.old.client }
         ensures current { self.new.current ≡ self.old.current }
+        ensures pending { pending_of self.new ≡ pending_of self.old }
         ensures open { IsOpen self.new }
         ensures stage { self.new.stage ≡ self.old.stage }
         ensures reached { (steps : List Step) → Reached steps self.old
@@ -142,6 +143,7 @@ impl Conn {
         requires { IsOpen self.old }
         ensures client { self.new.client ≡ self.old.client }
         ensures current { self.new.current ≡ self.old.current }
+        ensures pending { pending_of self.new ≡ pending_of self.old }
         ensures open { IsOpen self.new }
         ensures stage { self.new.stage ≡ self.old.stage }
         ensures reached { (steps : List Step) → Reached steps self.old

@@ -7,7 +7,7 @@ ghost use Rattle.conversation.specs.Steps.{Step, happened, failures, stops, pins
 ghost use Rattle.conversation.specs.Served.{Served};
 ghost use Rattle.conn_machine.specs.Parts.{no_trail, note_by};
 ghost use Rattle.conn_machine.specs.Prompt.{IsPrompt};
-ghost use Rattle.conn_machine.specs.Reached.{Reached, IsOpen, IsDrained, IsFinished, IsUnended, notes_left};
+ghost use Rattle.conn_machine.specs.Reached.{Reached, IsOpen, IsEnding, IsDrained, IsFinished, IsUnended, notes_left};
 
 use crate::conn::Conn;
 use crate::parts::{Current, Phase};
@@ -23,7 +23,8 @@ impl Conn {
         ensures number { self.new.current.number ≡ self.old.current.number }
         ensures prompt { IsPrompt self.old → IsPrompt self.new }
         ensures fewer { IfSome result (λ _. notes_left self.new < notes_left self.old) }
-        ensures open { IsOpen self.new → self.new ≡ record self.old { notes = self.new.notes } }
+        ensures open { IsOpen self.old → self.new ≡ record self.old { notes = self.new.notes } }
+        ensures ending { IsEnding self.old.phase → IsEnding self.new.phase }
         ensures drained { IfNone result (IsDrained self.new) }
         ensures none { IfNone result (self.new ≡ self.old) }
         ensures of_link { IfSome result (λ note. (steps : List Step) → Reached steps self.old

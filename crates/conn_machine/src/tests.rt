@@ -1,139 +1,303 @@
 //! Connections, as lists of events.
-use crate::{Conn, Want};
-use generation::Generation;
+use crate::{BackEvent, Conn, ConnEvent};
+use generation::{Generation, Route, Target};
 use ip_net::Ip;
-use link_world::{Cause, EndCause, Note, NoteBody};
-use px_base::List;
+use link_world::{Look, NodePick, note_text};
+use px_base::{Bytes, List};
+use rule_lang::{Leaf, Matcher};
 use std::alloc::Global;
 use std::process::Abort;
 use std::sync::Arc;
 use std::test::Fail;
+use wrr_deadlines::Pick;
 
-// A piece of the client's bytes.
-fn give(rt: &impl Abort, alloc: Global, conn: &mut Conn, piece: &[u8]) -> Result<(), Fail> {
-    conn.reserve(piece.len())?;
-    if conn.is_open() {
-        conn.bytes(alloc, piece)?;
-    } else {
-        assert!(rt; false);
-    }
-    Ok(())
+// What happens to a connection on link 0, whose server is on link 1. What is taken is all that is pending, this text.
+#[derive(Clone, Copy)]
+enum Act {
+    Gives(&'static [u8]),
+    Ends,
+    Fails,
+    // A configuration with one router, or without.
+    Pins,
+    PinsNone,
+    Looks(u64),
+    Draws,
+    Dials,
+    ServerTakes(&'static [u8]),
+    ServerGives(&'static [u8]),
+    ServerEnds,
+    ServerFails,
+    Takes(&'static [u8]),
+    Stops,
 }
 
 // A configuration without routers.
-fn pin(rt: &impl Abort, alloc: Global, conn: &mut Conn) -> Result<(), Fail> {
-    let issue = Arc::new(alloc, Generation::new(7, List::new(alloc)))?;
-    if conn.want() == Want::Pin && conn.current.number <= 7 {
-        conn.pin(alloc, issue)?;
-    } else {
-        assert!(rt; false);
-    }
-    Ok(())
+fn empty(alloc: Global) -> Result<Arc<Generation, Global>, Fail> {
+    Ok(Arc::new(alloc, Generation::new(1, List::new(alloc)))?)
 }
 
-// The client takes all that is pending, which is this text.
-fn take(rt: &impl Abort, alloc: Global, conn: &mut Conn, text: &[u8]) -> Result<(), Fail> {
-    conn.reserve(0)?;
-    assert_eq!(rt; conn.pending(), text);
-    let n = conn.pending().len();
-    if conn.is_open() {
-        conn.took(alloc, n)?;
-    } else {
-        assert!(rt; false);
-    }
-    Ok(())
+// A configuration with one router, which takes every path and leads to one server.
+fn configuration(alloc: Global) -> Result<Arc<Generation, Global>, Fail> {
+    let target = Target {
+        node: 0,
+        host: Bytes::from_slice(alloc, b"127.0.0.1")?,
+        port: 9000,
+        pass_host: true,
+    };
+    let rule = Leaf {
+        matcher: Matcher::PathPrefix,
+        value: Bytes::from_slice(alloc, b"/")?,
+    };
+    let mut routes = List::new(alloc);
+    routes.push(Route {
+        row: 0,
+        name: Bytes::from_slice(alloc, b"r@file")?,
+        rule,
+        priority: 15,
+        target,
+    })?;
+    Ok(Arc::new(alloc, Generation::new(1, routes))?)
 }
 
-fn expect_request(rt: &impl Abort, note: Option<Note>, status: u16, cause: Cause) {
-    match note {
-        Some(
-            Note {
-                link: 3,
-                body: NoteBody::Request(request),
+fn event_of(
+    rt: &impl Abort,
+    alloc: Global,
+    conn: &Conn,
+    act: Act,
+) -> Result<ConnEvent<'static>, Fail> {
+    Ok(match act {
+        Act::Gives(piece) => ConnEvent::Bytes(piece),
+        Act::Ends => ConnEvent::End,
+        Act::Fails => ConnEvent::Failed,
+        Act::Pins => ConnEvent::Pinned(configuration(alloc)?),
+        Act::PinsNone => ConnEvent::Pinned(empty(alloc)?),
+        Act::Looks(mask) => ConnEvent::Looked(Look { node: 0, mask }),
+        Act::Draws => ConnEvent::Drew(NodePick {
+            node: 0,
+            pick: Pick {
+                from: 0,
+                to: 1,
+                child: 0,
             },
-        ) => {
-            assert_eq!(rt; request.status, status);
-            assert_eq!(rt; request.generation, 7);
-            assert!(rt; request.cause == cause);
+        }),
+        Act::Dials => ConnEvent::Dialled { link: 1 },
+        Act::ServerTakes(text) => {
+            assert_eq!(rt; conn.back_pending(), text);
+            of_server(BackEvent::Took(text.len()))
         }
-        _ => assert!(rt; false),
-    }
+        Act::ServerGives(piece) => of_server(BackEvent::Bytes(piece)),
+        Act::ServerEnds => of_server(BackEvent::End),
+        Act::ServerFails => of_server(BackEvent::Failed),
+        Act::Takes(text) => {
+            assert_eq!(rt; conn.pending(), text);
+            ConnEvent::Took(text.len())
+        }
+        Act::Stops => ConnEvent::Stop,
+    })
 }
 
-fn expect_end(rt: &impl Abort, note: Option<Note>, cause: EndCause) {
-    match note {
-        Some(
-            Note {
-                link: 3,
-                body: NoteBody::End(end),
-            },
-        ) => assert!(rt; end == cause),
-        _ => assert!(rt; false),
-    }
+fn of_server(event: BackEvent<'static>) -> ConnEvent<'static> {
+    ConnEvent::Back { link: 1, event }
 }
 
-// A request that no router takes, cut at this place, and then the client's end.
+fn play(rt: &impl Abort, alloc: Global, conn: &mut Conn, act: Act) -> Result<(), Fail> {
+    let event = event_of(rt, alloc, conn, act)?;
+    conn.reserve(event.bytes_added())?;
+    let comes = conn.enabled(event.shape()) && conn.asked(&event);
+    assert!(rt; comes);
+    if comes {
+        conn.step(alloc, event)?;
+    }
+    Ok(())
+}
+
+fn play_all(rt: &impl Abort, alloc: Global, conn: &mut Conn, acts: &[Act]) -> Result<(), Fail> {
+    for act in acts {
+        play(rt, alloc, conn, *act)?;
+    }
+    Ok(())
+}
+
+// What is left to note, as text.
+fn notes_of(alloc: Global, conn: &mut Conn) -> Result<Vec<u8>, Fail> {
+    let mut text = Vec::new(alloc);
+    for _ in 0..8u32 {
+        if let Some(note) = conn.take_note(alloc) {
+            note_text(alloc, &note, &mut text)?;
+        }
+    }
+    Ok(text)
+}
+
+// These things happen, in three parts, and the connection notes this text.
+fn run(
+    rt: &impl Abort,
+    alloc: Global,
+    first: &[Act],
+    then: &[Act],
+    last: &[Act],
+    text: &[u8],
+) -> Result<(), Fail> {
+    let mut conn = Conn::new(alloc, 0, b"web", Ip::V4(2_130_706_433))?;
+    play_all(rt, alloc, &mut conn, first)?;
+    play_all(rt, alloc, &mut conn, then)?;
+    play_all(rt, alloc, &mut conn, last)?;
+    let notes = notes_of(alloc, &mut conn)?;
+    assert_eq!(rt; notes.as_slice(), text);
+    Ok(())
+}
+
+// A request that went to its server.
+const SENT: [Act; 6] = [
+    Act::Gives(b"GET / HTTP/1.1\r\nHost: a.test\r\n\r\n"),
+    Act::Pins,
+    Act::Looks(1),
+    Act::Draws,
+    Act::Dials,
+    Act::ServerTakes(
+        b"GET / HTTP/1.1\r\nHost: a.test\r\nX-Forwarded-For: 127.0.0.1\r\nX-Forwarded-Host: a.test\r\nX-Forwarded-Port: 80\r\nX-Forwarded-Proto: http\r\nX-Real-Ip: 127.0.0.1\r\nConnection: close\r\n\r\n",
+    ),
+];
+
+// The client takes the own reply of this status, and ends.
+const NOT_FOUND: [Act; 2] = [
+    Act::Takes(
+        b"HTTP/1.1 404 Not Found\r\nContent-Type: text/plain; charset=utf-8\r\nContent-Length: 19\r\n\r\n404 page not found\n",
+    ),
+    Act::Ends,
+];
+
+const UNAVAILABLE: [Act; 2] = [
+    Act::Takes(
+        b"HTTP/1.1 503 Service Unavailable\r\nContent-Type: text/plain; charset=utf-8\r\nContent-Length: 20\r\n\r\nno available server\n",
+    ),
+    Act::Ends,
+];
+
+const BAD_GATEWAY: [Act; 2] = [
+    Act::Takes(
+        b"HTTP/1.1 502 Bad Gateway\r\nContent-Type: text/plain; charset=utf-8\r\nContent-Length: 16\r\n\r\n502 bad gateway\n",
+    ),
+    Act::Ends,
+];
+
+// A request that no router takes, cut at this place.
 fn not_found(rt: &impl Abort, alloc: Global, at: usize) -> Result<(), Fail> {
     let request = b"GET / HTTP/1.1\r\nHost: a.test\r\n\r\n".as_slice();
     let (front, back) = request.split_at(at.min(request.len()));
-    let mut conn = Conn::new(alloc, 3, b"web", Ip::V4(1))?;
-    give(rt, alloc, &mut conn, front)?;
-    give(rt, alloc, &mut conn, back)?;
-    pin(rt, alloc, &mut conn)?;
-    take(
+    let acts = [Act::Gives(front), Act::Gives(back), Act::PinsNone];
+    let text =
+        b"note 0 1 gen 1 router - status 404 NoRouter looks - picks - turns - backs -\nnote 0 end Client\n";
+    run(rt, alloc, &acts, &NOT_FOUND, &[], text)
+}
+
+// The server gives its reply in two pieces, cut at this place.
+fn passed(rt: &impl Abort, alloc: Global, at: usize) -> Result<(), Fail> {
+    let reply = b"HTTP/1.1 200 OK\r\nContent-Length: 2\r\n\r\nok".as_slice();
+    let (front, back) = reply.split_at(at.min(reply.len()));
+    let acts = [Act::ServerGives(front), Act::ServerGives(back)];
+    let text =
+        b"note 0 1 gen 1 router 0 status 200 Passed looks 0:1 picks 0:0-1:0 turns - backs 1\nnote 0 end Client\n";
+    run(
         rt,
         alloc,
-        &mut conn,
-        b"HTTP/1.1 404 Not Found\r\nContent-Type: text/plain; charset=utf-8\r\nContent-Length: 19\r\n\r\n404 page not found\n",
-    )?;
-    expect_request(rt, conn.take_note(alloc), 404, Cause::NoRouter);
-    if conn.is_open() {
-        conn.end(alloc)?;
-    }
-    expect_end(rt, conn.take_note(alloc), EndCause::Client);
-    assert!(rt; conn.is_finished());
-    Ok(())
+        &SENT,
+        &acts,
+        &[Act::Takes(reply), Act::Ends],
+        text,
+    )
+}
+
+// Two requests in one piece: the second is answered after the first.
+fn two(rt: &impl Abort, alloc: Global) -> Result<(), Fail> {
+    let acts = [
+        Act::Gives(b"GET / HTTP/1.1\r\nHost: a.test\r\n\r\nGET / HTTP/1.1\r\nHost: a.test\r\n\r\n"),
+        Act::PinsNone,
+        NOT_FOUND[0],
+        Act::PinsNone,
+    ];
+    let text =
+        b"note 0 1 gen 1 router - status 404 NoRouter looks - picks - turns - backs -\nnote 0 2 gen 1 router - status 404 NoRouter looks - picks - turns - backs -\nnote 0 end Client\n";
+    run(rt, alloc, &acts, &NOT_FOUND, &[], text)
 }
 
 // Bytes that no head begins with.
 fn refused(rt: &impl Abort, alloc: Global) -> Result<(), Fail> {
-    let mut conn = Conn::new(alloc, 3, b"web", Ip::V4(1))?;
-    give(rt, alloc, &mut conn, b"\x00")?;
-    pin(rt, alloc, &mut conn)?;
-    take(
-        rt,
-        alloc,
-        &mut conn,
-        b"HTTP/1.1 400 Bad Request\r\nContent-Type: text/plain; charset=utf-8\r\nContent-Length: 16\r\nConnection: close\r\n\r\n400 bad request\n",
-    )?;
-    expect_request(
-        rt,
-        conn.take_note(alloc),
-        400,
-        Cause::Head(link_world::HeadName::BadHead),
-    );
-    expect_end(rt, conn.take_note(alloc), EndCause::Refused);
-    assert!(rt; conn.is_finished());
-    Ok(())
+    let acts = [
+        Act::Gives(b"\x00"),
+        Act::Pins,
+        Act::Takes(
+            b"HTTP/1.1 400 Bad Request\r\nContent-Type: text/plain; charset=utf-8\r\nContent-Length: 16\r\nConnection: close\r\n\r\n400 bad request\n",
+        ),
+    ];
+    let text =
+        b"note 0 1 gen 1 router - status 400 BadHead looks - picks - turns - backs -\nnote 0 end Refused\n";
+    run(rt, alloc, &acts, &[], &[], text)
 }
 
-// A connection that is stopped has one note.
-fn stopped(rt: &impl Abort, alloc: Global) -> Result<(), Fail> {
-    let mut conn = Conn::new(alloc, 3, b"web", Ip::V4(1))?;
-    if conn.is_open() {
-        conn.stop();
-    }
-    expect_end(rt, conn.take_note(alloc), EndCause::Stopped);
-    assert!(rt; conn.take_note(alloc).is_none());
-    Ok(())
+// The server is down.
+fn down(rt: &impl Abort, alloc: Global) -> Result<(), Fail> {
+    let text =
+        b"note 0 1 gen 1 router 0 status 503 NoChild looks 0:0 picks - turns - backs -\nnote 0 end Client\n";
+    run(
+        rt,
+        alloc,
+        &[SENT[0], Act::Pins],
+        &[Act::Looks(0)],
+        &UNAVAILABLE,
+        text,
+    )
+}
+
+// The client's link fails during an exchange, or a stop is asked for before a request.
+fn broken_off(rt: &impl Abort, alloc: Global) -> Result<(), Fail> {
+    let text =
+        b"note 0 1 gen 1 router 0 status 0 Undecided looks 0:1 picks 0:0-1:0 turns - backs 1\nnote 0 end ClientFailed\n";
+    run(rt, alloc, &SENT, &[Act::Fails], &[], text)?;
+    run(rt, alloc, &[Act::Stops], &[], &[], b"note 0 end Stopped\n")
+}
+
+// The link fails, gives what is no reply, or ends inside a head.
+fn lost(rt: &impl Abort, alloc: Global) -> Result<(), Fail> {
+    let failed =
+        b"note 0 1 gen 1 router 0 status 502 BackFailed 1 looks 0:1 picks 0:0-1:0 turns - backs 1\nnote 0 end Client\n".as_slice();
+    let bad =
+        b"note 0 1 gen 1 router 0 status 502 BackBad 1 looks 0:1 picks 0:0-1:0 turns - backs 1\nnote 0 end Client\n".as_slice();
+    run(rt, alloc, &SENT, &[Act::ServerFails], &BAD_GATEWAY, failed)?;
+    run(
+        rt,
+        alloc,
+        &SENT,
+        &[Act::ServerGives(b"\x00")],
+        &BAD_GATEWAY,
+        bad,
+    )?;
+    let acts = [Act::ServerGives(b"HTTP/1.1 200 OK\r\n"), Act::ServerEnds];
+    run(rt, alloc, &SENT, &acts, &BAD_GATEWAY, bad)
+}
+
+// The link ends inside the content of its reply.
+fn cut(rt: &impl Abort, alloc: Global) -> Result<(), Fail> {
+    let piece = b"HTTP/1.1 200 OK\r\nContent-Length: 2\r\n\r\no";
+    let acts = [Act::ServerGives(piece), Act::Takes(piece), Act::ServerEnds];
+    let text =
+        b"note 0 1 gen 1 router 0 status 200 Passed looks 0:1 picks 0:0-1:0 turns - backs 1\nnote 0 end Cut 1\n";
+    run(rt, alloc, &SENT, &acts, &[], text)
 }
 
 #[test]
 fn connections(rt: HostRuntime) -> Result<(), Fail> {
     let alloc = rt.alloc();
-    for at in 0..33u32 {
+    for at in 1..32u32 {
         not_found(&rt, alloc, at as usize)?;
     }
+    for at in 1..40u32 {
+        passed(&rt, alloc, at as usize)?;
+    }
+    two(&rt, alloc)?;
     refused(&rt, alloc)?;
-    stopped(&rt, alloc)
+    down(&rt, alloc)?;
+    broken_off(&rt, alloc)?;
+    lost(&rt, alloc)?;
+    cut(&rt, alloc)
 }

@@ -6,8 +6,8 @@ use Rattle.conn_machine.proofs.Passings.{opened_whole, cut_ends}
 use Rattle.conn_machine.proofs.conn.Conn.conclude.Goals as goal
 
 pub returns-in-Whole-clause-reached : goal.returns-in-Whole-clause-reached
-returns-in-Whole-clause-reached c = λ steps r. reached_open _ c.requires.phase (opened_whole c.in-Whole.ensures (opened_at c.requires r))
+returns-in-Whole-clause-reached c = λ steps r. c.settle.ensures.reached steps (reached_open _ c.requires.waits.phase (opened_whole c.in-Whole.ensures (opened_at c.requires.waits r)))
 
 pub returns-in-Cut-clause-reached : goal.returns-in-Cut-clause-reached
 returns-in-Cut-clause-reached c = λ steps r.
-    reached_over _ (ending.Cut c.args.self.now.current.link) refl (opened_at c.requires r) (cut_ends (history c.args.self.now.client.link steps) (failures c.args.self.now.client.link steps ≢ []) (stops steps ≢ []) c.in-Cut.ensures (opened_at c.requires r))
+    reached_over _ (ending.Cut c.args.self.now.current.link) refl (opened_at c.requires.waits r) (cut_ends (history c.args.self.now.client.link steps) (failures c.args.self.now.client.link steps ≢ []) (stops steps ≢ []) c.in-Cut.ensures (opened_at c.requires.waits r))

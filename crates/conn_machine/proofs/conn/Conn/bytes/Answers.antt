@@ -1,0 +1,10 @@
+use Rattle.std.proofs.Common.{rules, ap, sym, ◌∙◌, ◌≢◌}
+use Rattle.conn_machine.proofs.Prompts.{prompt_else}
+use Rattle.conn_machine.specs.declared.parts.Current.{Current}
+use Rattle.conn_machine.specs.declared.parts.Stage.TheVariants.{Head}
+use Rattle.conn_machine.proofs.conn.Conn.bytes.Goals as goal
+
+pub returns-then-not-matches-clause-prompt : goal.returns-then-not-matches-clause-prompt
+returns-then-not-matches-clause-prompt c = λ h.
+    let other : c.feed.new.self.stage ≢ Head = search rules in
+    prompt_else (c.feed.ensures.open ∙ sym c.requires.open) c.feed.ensures.stage other (ap (λ (m : Current). m.back) c.feed.ensures.current) c.feed.ensures.pending h
