@@ -5,7 +5,7 @@ pub same_or_not : (j i : ℕ) → (j ≡ i) ⊎ (j ≢ i)
 same_or_not zero zero = inl refl
 same_or_not zero (suc i) = inr (λ e. let f : ⊥ = omega (arith, e) in f)
 same_or_not (suc j) zero = inr (λ e. let f : ⊥ = omega (arith, e) in f)
-same_or_not (suc j) (suc i) = elim same_or_not j i as (λ _. (suc j ≡ suc i) ⊎ (suc j ≢ suc i)) [ inl e ↦ inl (ap suc e) | inr n ↦ inr (λ e. n (omega (arith, e))) ]
+same_or_not (suc j) (suc i) = elim (same_or_not j i) as (λ _. (suc j ≡ suc i) ⊎ (suc j ≢ suc i)) [ inl e ↦ inl (ap suc e) | inr n ↦ inr (λ e. n (omega (arith, e))) ]
 
 pub get_set_same : {X : Type 0} (xs : List X) (i : ℕ) (x y : X) → slice_get (set xs i x) i ≡ Some y → y ≡ x
 get_set_same [] i x y e = absurd (let f : ⊥ = cc in f)
@@ -28,7 +28,7 @@ pub get_pushed : {X : Type 0} (xs : List X) (i : ℕ) (x y : X) → slice_get (x
 get_pushed [] zero x y e = inr (refl, let h : y ≡ x = cc in h)
 get_pushed [] (suc i) x y e = absurd (let f : ⊥ = cc in f)
 get_pushed (z ∷ xs) zero x y e = inl e
-get_pushed (z ∷ xs) (suc i) x y e = elim get_pushed xs i x y e as (λ _. (slice_get xs i ≡ Some y) ⊎ ((suc i ≡ suc (length xs)) × (y ≡ x))) [ inl h ↦ inl h | inr h ↦ inr (ap suc h.0, h.1) ]
+get_pushed (z ∷ xs) (suc i) x y e = elim (get_pushed xs i x y e) as (λ _. (slice_get xs i ≡ Some y) ⊎ ((suc i ≡ suc (length xs)) × (y ≡ x))) [ inl h ↦ inl h | inr h ↦ inr (ap suc h.0, h.1) ]
 
 pub get_kept : {X : Type 0} (xs : List X) (i : ℕ) (x y : X) → slice_get xs i ≡ Some y → slice_get (xs ++ x ∷ []) i ≡ Some y
 get_kept [] i x y e = absurd (let f : ⊥ = cc in f)

@@ -1,5 +1,5 @@
 -- When an event may come, and what a call answers.
-use Rattle.std.specs.Prelude.{◌≡◌, ℕ, ◌==◌, Bool, true, false, List, length, Option, Some, None, Result, Ok, Err, codes}
+use Rattle.std.specs.Prelude.{◌≡◌, ℕ, ◌==◌, Bool, true, false, List, length, Option, Some, None, Result, Ok, Err, codes, slice_get}
 use Rattle.conn_machine.specs.declared.conn.Conn.{Conn}
 use Rattle.conn_machine.specs.declared.event.BackShape.{BackShape}
 use Rattle.conn_machine.specs.declared.event.BackShape.TheVariants as back
@@ -9,7 +9,8 @@ use Rattle.conn_machine.specs.declared.event.EventKind.TheVariants as kind
 use Rattle.conn_machine.specs.declared.event.StateName.TheVariants as state
 use Rattle.conn_machine.specs.Events.{IsEnabled, state_of, kind_text}
 use Rattle.conversation.specs.Plans.{Plan}
-use Rattle.system_core.specs.Views.{IsConnOf, plan_at, waiting_of}
+use Rattle.system_core.specs.Issues.{plan_at}
+use Rattle.system_core.specs.Views.{IsConnOf, waiting_of}
 use Rattle.system_core.specs.declared.event.Event.{Event}
 use Rattle.system_core.specs.declared.event.Event.TheVariants as event
 use Rattle.system_core.specs.declared.event.Kind.{Kind}
@@ -36,6 +37,10 @@ MayHappen link s c = IsEnabled (shape_on (link == c.client.link) link s) c
 -- this may be done for a client's link
 abbrev pub MayBeDone : ℕ → EventShape → Conn → Type 0
 MayBeDone link s c = (link ≡ c.client.link) × IsEnabled s c
+
+-- an event of this shape may come for the connection at this place
+abbrev pub IsAt : EventShape → ℕ → System → Type 0
+IsAt shape i s = (c : Conn) × (slice_get s.clients.conns.items i ≡ Some c) × IsEnabled shape c
 
 -- The answer to an event of a link. A refusal changes nothing: there is no such link, or the event may not come in the
 -- state of its connection.

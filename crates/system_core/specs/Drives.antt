@@ -6,7 +6,7 @@ use Rattle.link_world.specs.Log.{LinkEvent, came, dialled, gave, gave_end, took,
 use Rattle.conversation.specs.Steps.{Step, happened, failed, pinned, looked, drew, spent, ticked, stopped, IsNew}
 use Rattle.conn_machine.specs.declared.conn.Conn.{Conn}
 use Rattle.conn_machine.specs.Prompt.{IsPrompt}
-use Rattle.conn_machine.specs.Reached.{Reached}
+use Rattle.conn_machine.specs.Reached.{Reached, IsDrained}
 use Rattle.system_core.specs.Records.{noting}
 
 -- a link is dialled once
@@ -30,7 +30,7 @@ MayFollow (ticked now) steps = Unit {0}
 MayFollow stopped steps = Unit {0}
 
 -- some notes were told, and kept behind those that stood there
-pub record Told (c d : Conn) (old new : List Note) : Type 0 where
+pub record Noted (c d : Conn) (old new : List Note) : Type 0 where
   pub client : d.client ≡ c.client
   pub prompt : IsPrompt c → IsPrompt d
   pub notes : List Note
@@ -43,6 +43,7 @@ pub record Driven (step : Step) (c d : Conn) (old new : List Note) : Type 0 wher
   pub prompt : IsPrompt c → IsPrompt d
   pub notes : List Note
   pub kept : new ≡ old ++ notes
+  pub drained : IsDrained d
   pub reached : (steps : List Step) → MayFollow step steps → Reached steps c
       → Reached (steps ++ step ∷ map (noting c.client.link) notes) d
 
@@ -58,4 +59,5 @@ pub record CameAt (link : ℕ) (entry : List ℕ) (peer : Ip) (conns new_conns :
   pub conns_are : new_conns ≡ conns ++ conn ∷ []
   pub link_is : conn.client.link ≡ link
   pub prompt : IsPrompt conn
+  pub drained : IsDrained conn
   pub reached : Reached (happened link (came entry peer) ∷ []) conn

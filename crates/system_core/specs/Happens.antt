@@ -11,13 +11,10 @@ use Rattle.conn_machine.specs.declared.event.BackEvent.TheVariants as back
 use Rattle.wrr_deadlines.specs.Choice.{Draws}
 use Rattle.wrr_deadlines.specs.declared.choice.Drawn.{Drawn}
 use Rattle.wrr_deadlines.specs.declared.choice.Drawn.TheVariants as drawn
-use Rattle.system_core.specs.Records.{Telling, tells, Picked, Records, steps_of, noting, pops}
-use Rattle.system_core.specs.Views.{plan_at}
+use Rattle.system_core.specs.Records.{Telling, tells, Picked, Records, steps_of, noting, pops, one_server}
+use Rattle.system_core.specs.Issues.{plan_at, IsLast}
 use Rattle.system_core.specs.declared.event.Event.{Event}
 use Rattle.system_core.specs.declared.event.Event.TheVariants as event
-
-abbrev pub IsLast : List Plan → Plan → Type 0
-IsLast ps p = (before : List Plan) × (ps ≡ before ++ p ∷ [])
 
 -- the step and then these notes
 abbrev pub with_told : Records → ℕ → ℕ → Step → List Note → Records
@@ -49,24 +46,13 @@ pub record TellsOn (r : Records) (link : ℕ) (P : Step → Type 0) (s : Records
   pub says : P step
   pub does : Tells r place step s
 
--- the connection of a client's link is pinned to the newest configuration
-pub record Pins (r : Records) (link : ℕ) (s : Records) : Type 0 where
-  pub place : ℕ
-  pub owned : IsClientOf r link place
-  pub plan : Plan
-  pub newest : IsLast r.plans plan
-  pub does : Tells r place (pinned plan) s
+-- the connection at this place is pinned to the newest configuration
+abbrev pub PinsAt : Records → ℕ → Records → Type 0
+PinsAt r i s = (plan : Plan) × IsLast r.plans plan × Tells r i (pinned plan) s
 
--- each server is up
-pub record Looks (r : Records) (link : ℕ) (s : Records) : Type 0 where
-  pub place : ℕ
-  pub owned : IsClientOf r link place
-  pub node : ℕ
-  pub does : Tells r place (looked (record { node = node; mask = 1 })) s
-
--- the weights of a balancer of one server
-abbrev pub one_server : List ℕ
-one_server = 1 ∷ []
+-- it looks at a node, where the server is up
+abbrev pub LooksAt : Records → ℕ → Records → Type 0
+LooksAt r i s = (node : ℕ) × Tells r i (looked (record { node = node; mask = 1 })) s
 
 -- a pick is kept under the number of its configuration; a draw that is refused leaves none
 abbrev pub DrawTells : Drawn → Records → (number node i : ℕ) → Records → Type 0
@@ -75,47 +61,51 @@ DrawTells (drawn.Pick pick) r number node i s =
 DrawTells drawn.NoneUp r number node i s = ⊥
 DrawTells drawn.Spent r number node i s = Tells r i (spent node) s
 
--- the connection draws at a node of the configuration that it was pinned to last, after the pops that were taken there
-pub record DrawsOn (r : Records) (link : ℕ) (s : Records) : Type 0 where
-  pub place : ℕ
-  pub owned : IsClientOf r link place
+-- it draws at a node of the configuration that it was pinned to last, after the pops that were taken there
+pub record DrawsAt (r : Records) (i : ℕ) (s : Records) : Type 0 where
   pub plan : Plan
-  pub pinned : IsLast (pins (steps_of place r.told)) plan
+  pub pinned : IsLast (pins (steps_of i r.told)) plan
   pub node : ℕ
   pub result_ : Drawn
   pub draws : Draws one_server 1 (pops plan.number node r.picks) result_
-  pub does : DrawTells result_ r plan.number node place s
+  pub does : DrawTells result_ r plan.number node i s
 
--- the next link is dialled for the connection
-pub record Dials (r : Records) (link : ℕ) (s : Records) : Type 0 where
+-- the next link is dialled for it
+abbrev pub DialsAt : Records → ℕ → Records → Type 0
+DialsAt r i s = (host : List ℕ) × (port : ℕ)
+    × Tells (record r { owners = r.owners ++ i ∷ [] }) i (happened (length r.owners) (dialled host port)) s
+
+-- this is done for the connection whose client's link it is
+pub record Does (At : Records → ℕ → Records → Type 0) (r : Records) (link : ℕ) (s : Records) : Type 0 where
   pub place : ℕ
   pub owned : IsClientOf r link place
-  pub host : List ℕ
-  pub port : ℕ
-  pub does : Tells (record r { owners = r.owners ++ place ∷ [] }) place (happened (length r.owners) (dialled host port)) s
+  pub does : At r place s
 
 -- connections are told that a stop was asked for, one after another
 pub data Stops : Records → Records → Type 0 where
   none : (r : Records) → Stops r r
   more : (r s t : Records) (i : ℕ) → Stops r s → Tells s i stopped t → Stops r t
 
+-- a client comes on the next link
+abbrev pub with_client : Records → List ℕ → Ip → Records
+with_client r entry peer = record r {
+  clients = r.clients ++ length r.owners ∷ [];
+  owners = r.owners ++ length r.clients ∷ [];
+  told = r.told ++ tells (length r.clients) (happened (length r.owners) (came entry peer)) ∷ [];
+}
+
 -- what an event makes of the records
 abbrev pub Happens : Records → Event → Records → Type 0
 Happens r (event.Config issue) s = ((plan_at issue).number ≡ length r.plans) × (s ≡ record r { waiting = Some (plan_at issue) })
 Happens r event.Publish s = (p : Plan) × (r.waiting ≡ Some p) × (s ≡ record r { plans = r.plans ++ p ∷ []; waiting = None })
-Happens r (event.Arrive entry peer) s =
-    s ≡ record r {
-      clients = r.clients ++ length r.owners ∷ [];
-      owners = r.owners ++ length r.clients ∷ [];
-      told = r.told ++ tells (length r.clients) (happened (length r.owners) (came entry peer)) ∷ [];
-    }
+Happens r (event.Arrive entry peer) s = s ≡ with_client r entry peer
 Happens r (event.Bytes link bytes) s = TellsOn r link (λ step. step ≡ happened link (gave bytes)) s
 Happens r (event.End link) s = TellsOn r link (λ step. step ≡ happened link gave_end) s
 Happens r (event.Fail link) s = TellsOn r link (λ step. step ≡ failed link) s
-Happens r (event.Pin link) s = Pins r link s
-Happens r (event.Look link) s = Looks r link s
-Happens r (event.Draw link) s = DrawsOn r link s
-Happens r (event.Dial link) s = Dials r link s
+Happens r (event.Pin link) s = Does PinsAt r link s
+Happens r (event.Look link) s = Does LooksAt r link s
+Happens r (event.Draw link) s = Does DrawsAt r link s
+Happens r (event.Dial link) s = Does DialsAt r link s
 Happens r (event.Took link n) s = TellsOn r link (λ step. (bytes : List ℕ) × (length bytes ≡ n) × (step ≡ happened link (took bytes))) s
 Happens r event.Stop s = Stops (record r { stopped = true }) s
 

@@ -1,3 +1,4 @@
+pub mod Issues
 pub mod Records
 pub mod Views
 pub mod Happens

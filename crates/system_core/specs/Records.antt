@@ -64,3 +64,7 @@ last_pop number node count (p ∷ ps) = last_pop number node (if (p.number == nu
 -- how many pops were taken at a node of a configuration
 abbrev pub pops : ℕ → ℕ → List Picked → ℕ
 pops number node picks = last_pop number node 0 picks
+
+-- the weights of a balancer of one server
+abbrev pub one_server : List ℕ
+one_server = 1 ∷ []

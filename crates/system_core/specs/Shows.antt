@@ -1,25 +1,26 @@
 -- A system shows the records of its run: every interleaving.
 use Rattle.std.specs.Prelude.{◌≡◌, ◌≢◌, ℕ, ◌≤◌, List, [], length, map, Option, Some, Contains, slice_get}
 use Rattle.std.specs.List.{AllByRecursion}
-use Rattle.link_world.specs.declared.note.Note.{Note}
+use Rattle.ip_net.specs.declared.ip.Ip.{Ip}
 use Rattle.conversation.specs.Plans.{Plan}
 use Rattle.conversation.specs.Steps.{Step, history, failures, stops, pins, IsNew}
 use Rattle.conversation.specs.Served.{Served}
 use Rattle.conn_machine.specs.declared.conn.Conn.{Conn}
-use Rattle.conn_machine.specs.Reached.{Reached, IsFinished}
+use Rattle.conn_machine.specs.Reached.{Reached, IsDrained}
 use Rattle.conn_machine.specs.Prompt.{IsPrompt}
 use Rattle.system_core.specs.Records.{Records, steps_of, notes_of}
 use Rattle.system_core.specs.Views.{plans_of, waiting_of, client_of, owner_of, picked_of, IsLinkOf}
 use Rattle.conn_machine.specs.declared.event.BackEvent.{BackEvent}
-use Rattle.system_core.specs.Happens.{Runs, Happens, TellsOn, Says, Stops}
+use Rattle.system_core.specs.Happens.{Runs, Happens, TellsOn, Says, Stops, with_client}
 use Rattle.system_core.specs.declared.event.Event.{Event}
 use Rattle.system_core.specs.declared.links.Link.{Link}
 use Rattle.system_core.specs.declared.system.System.{System}
 
--- each connection is reached by what it was told, and waits for nothing that has come
+-- a connection is reached by what it was told, waits for nothing that has come, and has told its notes
 pub record IsConn (told : List Step) (c : Conn) : Type 0 where
   pub reached : Reached told c
   pub prompt : IsPrompt c
+  pub drained : IsDrained c
 
 pub record Shows (r : Records) (s : System) : Type 0 where
   pub plans : plans_of s.clients.timeline ≡ r.plans
@@ -55,6 +56,14 @@ Ran e old new = (r : Records) → Shows r old → (s : Records) × Happens r e s
 -- the same of something that happens on a link
 abbrev pub RanOn : ℕ → BackEvent → System → System → Type 0
 RanOn link e old new = (r : Records) → Shows r old → (s : Records) × TellsOn r link (Says link e) s × Shows s new
+
+-- the same of a client that comes
+abbrev pub RanCame : List ℕ → Ip → System → System → Type 0
+RanCame entry peer old new = (r : Records) → Shows r old → Shows (with_client r entry peer) new
+
+-- the same of what is done for the connection at a place
+abbrev pub RanAt : (Records → ℕ → Records → Type 0) → ℕ → System → System → Type 0
+RanAt At i old new = (r : Records) → Shows r old → (s : Records) × At r i s × Shows s new
 
 -- the same of connections that are told that a stop was asked for
 abbrev pub Stopping : System → System → Type 0

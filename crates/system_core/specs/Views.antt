@@ -1,16 +1,12 @@
 -- What the parts of a system stand for.
 use Rattle.std.specs.Prelude.{◌≡◌, ℕ, List, [], ◌∷◌, ◌++◌, map, Option, Some, None, slice_get}
-use Rattle.std.specs.declared.sync.Arc.{Arc}
-use Rattle.std.specs.declared.alloc.Global.{Global}
-use Rattle.std.specs.Arc.{arc_value}
 use Rattle.link_world.specs.declared.note.NodePick.{NodePick}
 use Rattle.link_world.specs.Log.{LinkEvent, came, dialled, taken}
 use Rattle.ip_net.specs.declared.ip.Ip.{Ip}
 use Rattle.conversation.specs.Plans.{Plan}
-use Rattle.generation.specs.Meaning.{plan_of}
-use Rattle.generation.specs.declared.generation.Generation.{Generation}
 use Rattle.conn_machine.specs.declared.conn.Conn.{Conn}
 use Rattle.conn_machine.specs.Parts.{issue_plan}
+use Rattle.system_core.specs.Issues.{plans_in}
 use Rattle.system_core.specs.Records.{Picked}
 use Rattle.system_core.specs.declared.clients.Clients.{Clients}
 use Rattle.system_core.specs.declared.timeline.Timeline.{Timeline}
@@ -18,13 +14,6 @@ use Rattle.system_core.specs.declared.links.Link.{Link}
 use Rattle.system_core.specs.declared.links.Authority.{Authority}
 use Rattle.system_core.specs.declared.draws.Pop.{Pop}
 use Rattle.system_core.specs.declared.system.System.{System}
-
-abbrev pub plan_at : Arc Generation Global → Plan
-plan_at issue = plan_of (arc_value issue)
-
--- the earlier ones, then the newest
-abbrev pub plans_in : List (Arc Generation Global) → Arc Generation Global → List Plan
-plans_in earlier newest = map plan_at earlier ++ plan_at newest ∷ []
 
 -- the configurations that were published
 abbrev pub plans_of : Timeline → List Plan

@@ -1,12 +1,11 @@
 // What a client's connection waits for: a configuration, a look, a pick, and a link to its server.
-ghost use Rattle.std.specs.Prelude.{◌≡◌, Err, OnOk, IfOk, MatchOption, length};
-ghost use Rattle.conn_machine.specs.declared.conn.Conn.{Conn as ConnOf};
-ghost use Rattle.system_core.specs.Views.{IsConnOf};
-ghost use Rattle.system_core.specs.Answers.{LinkAnswers, MayBeDone};
-ghost use Rattle.system_core.specs.Shows.{Ran};
+ghost use Rattle.std.specs.Prelude.{◌≡◌, OnOk, IfOk};
+ghost use Rattle.system_core.specs.Answers.{LinkAnswers, MayBeDone, IsAt};
+ghost use Rattle.system_core.specs.Happens.{PinsAt, LooksAt, DrawsAt, DialsAt};
+ghost use Rattle.system_core.specs.Shows.{Ran, RanAt};
 ghost use Rattle.system_core.specs.declared.event.Event.TheVariants as event;
 
-use crate::draws::Pop;
+use crate::draws::{Pop, popped_at};
 use crate::event::{Kind, Refused};
 use crate::links::{Authority, Link};
 use crate::system::System;
@@ -14,7 +13,7 @@ use conn_machine::{Aim, ConnEvent, EventKind, EventShape};
 use link_world::{Look, NodePick};
 use px_base::{Bytes, Memory};
 use std::alloc::{AllocError, Global};
-use wrr_deadlines::{Drawn, Pick};
+use wrr_deadlines::Drawn;
 
 impl System {
     pub(crate) fn pin(&mut self, alloc: Global, link: u32) -> Result<(), Refused>
@@ -22,6 +21,14 @@ impl System {
         ensures ran { OnOk result (Ran (event.Pin link) self.old self.new) }
     {
         let place = self.client_waits(link, EventShape::Pinned)?;
+        self.pin_at(alloc, place)?;
+        Ok(())
+    }
+
+    fn pin_at(&mut self, alloc: Global, place: usize) -> Result<(), Memory>
+        requires { IsAt EventShape.Pinned place self.old }
+        ensures { OnOk result (RanAt PinsAt place self.old self.new) }
+    {
         self.clients.pin(alloc, place, &mut self.notes)?;
         Ok(())
     }
@@ -37,6 +44,8 @@ impl System {
 
     // Each server is up.
     fn look_at(&mut self, alloc: Global, place: usize) -> Result<(), Memory>
+        requires { IsAt EventShape.Looked place self.old }
+        ensures { OnOk result (RanAt LooksAt place self.old self.new) }
     {
         let Some(aim) = self.clients.conns[place].aim() else {
             return Err(AllocError);
@@ -46,7 +55,8 @@ impl System {
             mask: 1,
         };
         self.clients
-            .drive(alloc, place, ConnEvent::Looked(look), &mut self.notes)
+            .drive(alloc, place, ConnEvent::Looked(look), &mut self.notes)?;
+        Ok(())
     }
 
     pub(crate) fn draw(&mut self, alloc: Global, link: u32) -> Result<(), Refused>
@@ -60,6 +70,8 @@ impl System {
 
     // The next pop of its balancer that is up.
     fn draw_at(&mut self, alloc: Global, place: usize) -> Result<(), Memory>
+        requires { IsAt EventShape.Drew place self.old }
+        ensures { OnOk result (RanAt DrawsAt place self.old self.new) }
     {
         let conn = &self.clients.conns[place];
         let Some(aim) = conn.aim() else {
@@ -67,17 +79,22 @@ impl System {
         };
         let node = aim.node;
         let number = conn.current.number;
-        match self.server.draw(self.pops.as_slice(), number, node) {
-            Drawn::Pick(pick) => self.draw_pick(alloc, place, number, NodePick { node, pick }),
+        let count = popped_at(self.pops.as_slice(), number, node);
+        match self.server.draw(count) {
+            Drawn::Pick(pick) => {
+                let pick = NodePick { node, pick };
+                self.pops.push(Pop { number, pick })?;
+                self.clients
+                    .drive(alloc, place, ConnEvent::Drew(pick), &mut self.notes)?;
+                Ok(())
+            }
             Drawn::NoneUp => unreachable!(),
-            Drawn::Spent => self.clients.drive(alloc, place, ConnEvent::Spent { node }, &mut self.notes),
+            Drawn::Spent => {
+                self.clients
+                    .drive(alloc, place, ConnEvent::Spent { node }, &mut self.notes)?;
+                Ok(())
+            }
         }
-    }
-
-    fn draw_pick(&mut self, alloc: Global, place: usize, number: u64, pick: NodePick) -> Result<(), Memory>
-    {
-        self.pops.push(Pop { number, pick })?;
-        self.clients.drive(alloc, place, ConnEvent::Drew(pick), &mut self.notes)
     }
 
     pub(crate) fn dial(&mut self, alloc: Global, link: u32) -> Result<(), Refused>
@@ -85,11 +102,13 @@ impl System {
         ensures ran { OnOk result (Ran (event.Dial link) self.old self.new) }
     {
         let place = self.client_waits(link, EventShape::Dialled)?;
-        self.dial_for(alloc, place)?;
+        self.dial_at(alloc, place)?;
         Ok(())
     }
 
-    fn dial_for(&mut self, alloc: Global, owner: usize) -> Result<(), Memory>
+    fn dial_at(&mut self, alloc: Global, owner: usize) -> Result<(), Memory>
+        requires { IsAt EventShape.Dialled owner self.old }
+        ensures { OnOk result (RanAt DialsAt owner self.old self.new) }
     {
         let Some(aim) = self.clients.conns[owner].aim() else {
             return Err(AllocError);

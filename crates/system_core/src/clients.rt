@@ -1,16 +1,16 @@
 // The connections, and the configurations that they are pinned to.
-ghost use Rattle.std.specs.Prelude.{◌≡◌, ◌≤◌, ◌<◌, ◌++◌, ◌∷◌, [], ℕ, Some, None, OnOk, IfSome, IsTrue, ◌↔◌, length, slice_get};
+ghost use Rattle.std.specs.Prelude.{◌≡◌, ◌≤◌, ◌++◌, ◌∷◌, [], ℕ, Some, None, OnOk, IfSome, length, slice_get};
 ghost use Rattle.conversation.specs.Steps.{pinned as pinned_to};
 ghost use Rattle.conversation.specs.Plans.{Plan};
 ghost use Rattle.conn_machine.specs.declared.conn.Conn.{Conn as ConnOf};
 ghost use Rattle.conn_machine.specs.Events.{IsEnabled, IsAsked, shape_of, step_of, number_after};
-ghost use Rattle.system_core.specs.Views.{plan_at, plans_of, waiting_of};
+ghost use Rattle.conn_machine.specs.Parts.{issue_plan};
+ghost use Rattle.system_core.specs.Issues.{plan_at, plans_in, IsLast};
 ghost use Rattle.system_core.specs.Drives.{DrivenAt, CameAt};
-ghost use Rattle.system_core.specs.Happens.{IsLast};
 
 use crate::drive::drive;
 use crate::timeline::Timeline;
-use conn_machine::{Conn, ConnEvent};
+use conn_machine::{Conn, ConnEvent, EventShape};
 use generation::Generation;
 use ip_net::Ip;
 use link_world::Note;
@@ -30,8 +30,8 @@ pub(crate) struct Clients {
 impl Clients {
     pub(crate) fn new(alloc: Global, first: Arc<Generation, Global>) -> Clients
         requires { (plan_at first).number ≡ 0 }
-        ensures plans { plans_of result.timeline ≡ plan_at first ∷ [] }
-        ensures waiting { waiting_of result.timeline ≡ None }
+        ensures plans { plans_in result.timeline.earlier.items result.timeline.newest ≡ plan_at first ∷ [] }
+        ensures waiting { issue_plan result.timeline.waiting ≡ None }
         ensures conns { result.conns.items ≡ [] }
     {
         Clients {
@@ -42,9 +42,9 @@ impl Clients {
 
     /// Lets the next configuration wait.
     pub(crate) fn wait_with(&mut self, issue: Arc<Generation, Global>)
-        requires { (plan_at issue).number ≡ length (plans_of self.old.timeline) }
-        ensures plans { plans_of self.new.timeline ≡ plans_of self.old.timeline }
-        ensures waiting { waiting_of self.new.timeline ≡ Some (plan_at issue) }
+        requires { (plan_at issue).number ≡ length (plans_in self.old.timeline.earlier.items self.old.timeline.newest) }
+        ensures plans { plans_in self.new.timeline.earlier.items self.new.timeline.newest ≡ plans_in self.old.timeline.earlier.items self.old.timeline.newest }
+        ensures waiting { issue_plan self.new.timeline.waiting ≡ Some (plan_at issue) }
         ensures conns { self.new.conns ≡ self.old.conns }
     {
         self.timeline.wait_with(issue);
@@ -52,8 +52,8 @@ impl Clients {
 
     /// Publishes the configuration that waits, where one does.
     pub(crate) fn publish(&mut self) -> Result<(), Memory>
-        ensures plans { OnOk result (IfSome (waiting_of self.old.timeline) (λ p. plans_of self.new.timeline ≡ plans_of self.old.timeline ++ p ∷ [])) }
-        ensures waiting { OnOk result (waiting_of self.new.timeline ≡ None) }
+        ensures plans { OnOk result (IfSome (issue_plan self.old.timeline.waiting) (λ p. plans_in self.new.timeline.earlier.items self.new.timeline.newest ≡ plans_in self.old.timeline.earlier.items self.old.timeline.newest ++ p ∷ [])) }
+        ensures waiting { OnOk result (issue_plan self.new.timeline.waiting ≡ None) }
         ensures conns { self.new.conns ≡ self.old.conns }
     {
         self.timeline.publish()
@@ -84,15 +84,14 @@ impl Clients {
         event: ConnEvent<'_>,
         notes: &mut Vec<Note>,
     ) -> Result<(), Memory>
-        requires within { place < length self.old.conns.items }
-        requires enabled { IfSome (slice_get self.old.conns.items place) (IsEnabled (shape_of event)) }
-        requires asked { IfSome (slice_get self.old.conns.items place) (IsAsked event) }
+        requires told { (c : ConnOf) × (slice_get self.old.conns.items place ≡ Some c) × IsEnabled (shape_of event) c × IsAsked event c }
         requires known { number_after event 0 ≤ length self.old.timeline.earlier.items }
         ensures timeline { self.new.timeline ≡ self.old.timeline }
-        ensures driven { OnOk result (IfSome (slice_get self.old.conns.items place) (λ c.
-            DrivenAt place c (step_of c event.entry) self.old.conns.items self.new.conns.items notes.old.items notes.new.items)) }
+        ensures driven { OnOk result ((c : ConnOf) → slice_get self.old.conns.items place ≡ Some c
+            → DrivenAt place c (step_of c event.entry) self.old.conns.items self.new.conns.items notes.old.items notes.new.items) }
     {
-        drive(alloc, &mut self.conns[place], event, notes)
+        drive(alloc, &mut self.conns[place], event, notes)?;
+        Ok(())
     }
 
     /// The connection at this place is pinned to the newest configuration.
@@ -102,13 +101,14 @@ impl Clients {
         place: usize,
         notes: &mut Vec<Note>,
     ) -> Result<(), Memory>
-        requires within { place < length self.old.conns.items }
-        requires enabled { IfSome (slice_get self.old.conns.items place) (IsEnabled EventShape.Pinned) }
+        requires { (c : ConnOf) × (slice_get self.old.conns.items place ≡ Some c) × IsEnabled EventShape.Pinned c }
         ensures timeline { self.new.timeline ≡ self.old.timeline }
-        ensures driven { OnOk result ((p : Plan) × IsLast (plans_of self.old.timeline) p × IfSome (slice_get self.old.conns.items place) (λ c.
-            DrivenAt place c (pinned_to p) self.old.conns.items self.new.conns.items notes.old.items notes.new.items)) }
+        ensures driven { OnOk result ((p : Plan) × IsLast (plans_in self.old.timeline.earlier.items self.old.timeline.newest) p
+            × ((c : ConnOf) → slice_get self.old.conns.items place ≡ Some c
+            → DrivenAt place c (pinned_to p) self.old.conns.items self.new.conns.items notes.old.items notes.new.items)) }
     {
         let issue = self.timeline.last()?;
-        self.drive(alloc, place, ConnEvent::Pinned(issue), notes)
+        self.drive(alloc, place, ConnEvent::Pinned(issue), notes)?;
+        Ok(())
     }
 }

@@ -1,7 +1,8 @@
 // One event of one connection, and the notes that follow it.
 ghost use Rattle.std.specs.Prelude.{◌≡◌, OnOk};
 ghost use Rattle.conn_machine.specs.Events.{IsEnabled, IsAsked, bytes_of, shape_of, step_of, number_after};
-ghost use Rattle.system_core.specs.Drives.{Told, Driven};
+ghost use Rattle.conn_machine.specs.Reached.{IsDrained};
+ghost use Rattle.system_core.specs.Drives.{Noted, Driven};
 
 use conn_machine::{Conn, ConnEvent};
 use link_world::Note;
@@ -22,7 +23,8 @@ pub(crate) fn drive(
 {
     conn.reserve(bytes_of_event(&event))?;
     conn.step(alloc, event)?;
-    tell_notes(alloc, conn, notes)
+    tell_notes(alloc, conn, notes)?;
+    Ok(())
 }
 
 // How many bytes the event adds to the client's buffer.
@@ -37,7 +39,8 @@ fn bytes_of_event(event: &ConnEvent<'_>) -> usize
 
 // Takes the notes of the connection.
 fn tell_notes(alloc: Global, conn: &mut Conn, notes: &mut Vec<Note>) -> Result<(), Memory>
-    ensures told { OnOk result (Told conn.old conn.new notes.old.items notes.new.items) }
+    ensures noted { OnOk result (Noted conn.old conn.new notes.old.items notes.new.items) }
+    ensures drained { OnOk result (IsDrained conn.new) }
     ensures number { OnOk result (conn.new.current.number ≡ conn.old.current.number) }
 {
     while let Some(note) = conn.take_note(alloc) {

@@ -10,6 +10,7 @@ mod law;
 mod links;
 mod lone;
 mod on_link;
+mod server;
 mod system;
 #[cfg(test)]
 mod tests;

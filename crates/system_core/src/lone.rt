@@ -1,8 +1,9 @@
 // Events of no connection.
-ghost use Rattle.std.specs.Prelude.{◌≡◌, ◌<◌, None, IfOk, OnOk, false, length};
-ghost use Rattle.system_core.specs.Views.{plan_at, plans_of, waiting_of};
+ghost use Rattle.std.specs.Prelude.{◌≡◌, ◌<◌, None, IfOk, OnOk, false, length, slice_get, Some, ℕ, ◌≤◌};
+ghost use Rattle.system_core.specs.Issues.{plan_at};
+ghost use Rattle.system_core.specs.Views.{plans_of, waiting_of};
 ghost use Rattle.system_core.specs.Answers.{LoneAnswers, HasWaiting};
-ghost use Rattle.system_core.specs.Shows.{Ran, Stopping};
+ghost use Rattle.system_core.specs.Shows.{Ran, RanCame, Stopping};
 ghost use Rattle.system_core.specs.declared.event.Event.TheVariants as event;
 
 use crate::event::{Kind, Refused};
@@ -51,7 +52,7 @@ impl System {
     }
 
     fn admit(&mut self, alloc: Global, entry: &[u8], peer: Ip) -> Result<(), Memory>
-        ensures { OnOk result (Admitted entry.now peer self.old self.new) }
+        ensures { OnOk result (RanCame entry.now peer self.old self.new) }
     {
         let link = self.next_link()?;
         let owner = self.clients.conns.len();
@@ -91,7 +92,8 @@ impl System {
     fn stop_all(&mut self, alloc: Global) -> Result<(), Memory>
         ensures { OnOk result (Stopping self.old self.new) }
     {
-        for place in 0..self.clients.conns.len() {
+        let count = self.clients.conns.len();
+        for place in 0..count {
             self.stop_at(alloc, place)?;
         }
         Ok(())
@@ -105,7 +107,9 @@ impl System {
         if !self.clients.conns[place].is_open() {
             return Ok(());
         }
-        self.clients.drive(alloc, place, ConnEvent::Stop, &mut self.notes)
+        self.clients
+            .drive(alloc, place, ConnEvent::Stop, &mut self.notes)?;
+        Ok(())
     }
 }
 

@@ -101,11 +101,13 @@ impl System {
         requires { (c : ConnOf) × IsConnOf self.old link place c × MayHappen link (back_shape_of event) c }
         ensures { OnOk result (RanOn link event.entry self.old self.new) }
     {
-        let conn = &self.clients.conns[place];
-        let told = told_on(link == conn.client.link, link, event);
-        let taken = taken_now(conn, link == conn.client.link, event);
+        let clients = &mut self.clients;
+        let conn = &clients.conns[place];
+        let own = link == conn.client.link;
+        let taken = taken_now(conn, own, event);
         self.links[link as usize].sent.extend_from_slice(taken)?;
-        self.clients.drive(alloc, place, told, &mut self.notes)
+        clients.drive(alloc, place, told_on(own, link, event), &mut self.notes)?;
+        Ok(())
     }
 }
 

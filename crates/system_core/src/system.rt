@@ -1,15 +1,17 @@
 //! The system: every connection, told one event after another.
 ghost use Rattle.std.specs.Prelude.{◌≡◌, ◌++◌, ◌∷◌, [], List, IfOk, OnOk, length};
 ghost use Rattle.conversation.specs.Plans.{Plan};
-ghost use Rattle.system_core.specs.Views.{plan_at, plans_of};
+ghost use Rattle.system_core.specs.Issues.{plan_at};
+ghost use Rattle.system_core.specs.Views.{plans_of};
 ghost use Rattle.system_core.specs.Answers.{Answers, IsNext};
 ghost use Rattle.system_core.specs.Shows.{Lawful, Ran};
 ghost use Rattle.system_core.specs.declared.event.Event.{Event as EventOf};
 
 use crate::clients::Clients;
-use crate::draws::{OneServer, Pop};
+use crate::draws::Pop;
 use crate::event::{Event, Refused};
 use crate::links::Link;
+use crate::server::OneServer;
 use conn_machine::BackEvent;
 use generation::Generation;
 use link_world::Note;

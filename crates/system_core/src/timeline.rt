@@ -2,7 +2,8 @@
 ghost use Rattle.std.specs.Prelude.{◌≡◌, ◌+◌, ◌++◌, ◌∷◌, [], None, Some, OnOk, IfOk, IfNone, IfSome, length, IsTrue, ◌↔◌};
 ghost use Rattle.std.specs.Option.{ForSome};
 ghost use Rattle.std.specs.Arc.{arc_value};
-ghost use Rattle.system_core.specs.Views.{plan_at, plans_of, waiting_of};
+ghost use Rattle.conn_machine.specs.Parts.{issue_plan};
+ghost use Rattle.system_core.specs.Issues.{plan_at, plans_in};
 
 use generation::Generation;
 use px_base::Memory;
@@ -23,8 +24,8 @@ pub(crate) struct Timeline {
 impl Timeline {
     pub(crate) fn new(alloc: Global, first: Arc<Generation, Global>) -> Timeline
         requires { (plan_at first).number ≡ 0 }
-        ensures plans { plans_of result ≡ plan_at first ∷ [] }
-        ensures waiting { waiting_of result ≡ None }
+        ensures plans { plans_in result.earlier.items result.newest ≡ plan_at first ∷ [] }
+        ensures waiting { issue_plan result.waiting ≡ None }
         ensures earlier { result.earlier.items ≡ [] }
     {
         Timeline {
@@ -37,23 +38,23 @@ impl Timeline {
     /// How many were published.
     pub(crate) fn count(&self) -> u64
         ensures count { result ≡ length self.now.earlier.items + 1 }
-        ensures plans { result ≡ length (plans_of self.now) }
+        ensures plans { result ≡ length (plans_in self.now.earlier.items self.now.newest) }
     {
         self.earlier.len() as u64 + 1
     }
 
     /// Whether one waits.
     pub(crate) fn is_waiting(&self) -> bool
-        ensures { IsTrue result ↔ (waiting_of self.now ≡ None → ⊥) }
+        ensures { IsTrue result ↔ (issue_plan self.now.waiting ≡ None → ⊥) }
     {
         self.waiting.is_some()
     }
 
     /// Lets the next configuration wait.
     pub(crate) fn wait_with(&mut self, issue: Arc<Generation, Global>)
-        requires { (plan_at issue).number ≡ length (plans_of self.old) }
-        ensures plans { plans_of self.new ≡ plans_of self.old }
-        ensures waiting { waiting_of self.new ≡ Some (plan_at issue) }
+        requires { (plan_at issue).number ≡ length (plans_in self.old.earlier.items self.old.newest) }
+        ensures plans { plans_in self.new.earlier.items self.new.newest ≡ plans_in self.old.earlier.items self.old.newest }
+        ensures waiting { issue_plan self.new.waiting ≡ Some (plan_at issue) }
         ensures earlier { self.new.earlier ≡ self.old.earlier }
     {
         self.waiting = Some(issue);
@@ -61,8 +62,8 @@ impl Timeline {
 
     /// Publishes the one that waits, where one does.
     pub(crate) fn publish(&mut self) -> Result<(), Memory>
-        ensures plans { OnOk result (IfSome (waiting_of self.old) (λ p. plans_of self.new ≡ plans_of self.old ++ p ∷ [])) }
-        ensures waiting { OnOk result (waiting_of self.new ≡ None) }
+        ensures plans { OnOk result (IfSome (issue_plan self.old.waiting) (λ p. plans_in self.new.earlier.items self.new.newest ≡ plans_in self.old.earlier.items self.old.newest ++ p ∷ [])) }
+        ensures waiting { OnOk result (issue_plan self.new.waiting ≡ None) }
         ensures earlier { length self.new.earlier.items ≡ length self.old.earlier.items }
     {
         self.earlier.reserve(1)?;

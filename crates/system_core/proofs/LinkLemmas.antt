@@ -33,7 +33,7 @@ link_more k k' h more bytes to sent took is = record {
 -- a link that keeps what it is, and takes nothing
 link_kept : (l place client : ℕ) (k : Link) (told : List Telling) (step : Step) (notes : List Note) → taken (history_by l step) ≡ []
     → IsLinkOf k (history l (steps_of k.owner told)) → IsLinkOf k (history l (steps_of k.owner (told ++ map (tells place) (step ∷ map (noting client) notes))))
-link_kept l place client k told step notes none is = elim same_or_not k.owner place as (λ _. IsLinkOf k (history l (steps_of k.owner (told ++ map (tells place) (step ∷ map (noting client) notes))))) [
+link_kept l place client k told step notes none is = elim (same_or_not k.owner place) as (λ _. IsLinkOf k (history l (steps_of k.owner (told ++ map (tells place) (step ∷ map (noting client) notes))))) [
     inr d ↦ rw (steps_other k.owner place told (step ∷ map (noting client) notes) d) is
   | inl e ↦ subst (λ (i : ℕ). IsLinkOf k (history l (steps_of i (told ++ map (tells place) (step ∷ map (noting client) notes))))) (sym e)
       (rw (steps_same place told (step ∷ map (noting client) notes)) (rw (history_append l (steps_of place told) (step ∷ map (noting client) notes))
@@ -52,7 +52,7 @@ pub links_took : (link place client : ℕ) (bytes : List ℕ) (links new : List 
     → AllLinks links told → AllLinks new (told ++ map (tells place) (step ∷ map (noting client) notes))
 links_took link place client bytes links new told step notes took t owned all = λ l k at.
     let at' : slice_get (set links link t.after) l ≡ Some k = ap (λ xs. slice_get xs l) (sym t.links_are) ∙ at in
-    elim same_or_not l link as (λ _. IsLinkOf k (history l (steps_of k.owner (told ++ map (tells place) (step ∷ map (noting client) notes))))) [
+    elim (same_or_not l link) as (λ _. IsLinkOf k (history l (steps_of k.owner (told ++ map (tells place) (step ∷ map (noting client) notes))))) [
         inr d ↦ link_kept l place client k told step notes (took l ∙ ap (λ b. only_if b bytes) (other_link l link d)) (all l k (sym (get_set_other links link l t.after d) ∙ at'))
       | inl e ↦ taker l k e at'
       ]
@@ -79,7 +79,7 @@ pub links_dialled : (place client : ℕ) (links new : List Link) (k' : Link) (to
     → new ≡ links ++ k' ∷ [] → k'.owner ≡ place → k'.to ≡ Some to → k'.sent.items ≡ [] → length links ≢ client → IsNew (length links) (steps_of place told)
     → AllLinks links told → AllLinks new (told ++ map (tells place) (happened (length links) (dialled to.host to.port) ∷ map (noting client) notes))
 links_dialled place client links new k' to told notes is owner to_is sent apart fresh all = λ l k at.
-    elim get_pushed links l k' k (ap (λ xs. slice_get xs l) (sym is) ∙ at) as (λ _. IsLinkOf k (history l (steps_of k.owner (told ++ map (tells place) (happened (length links) (dialled to.host to.port) ∷ map (noting client) notes))))) [
+    elim (get_pushed links l k' k (ap (λ xs. slice_get xs l) (sym is) ∙ at)) as (λ _. IsLinkOf k (history l (steps_of k.owner (told ++ map (tells place) (happened (length links) (dialled to.host to.port) ∷ map (noting client) notes))))) [
         inl h ↦ link_kept l place client k told (happened (length links) (dialled to.host to.port)) notes (quiet_event (l == length links) (dialled to.host to.port) refl) (all l k h)
       | inr h ↦ newest l k h.0 h.1
       ]
@@ -104,7 +104,7 @@ pub links_came : (place : ℕ) (links new : List Link) (k' : Link) (entry : List
     → new ≡ links ++ k' ∷ [] → k'.owner ≡ place → k'.to ≡ None → k'.sent.items ≡ [] → steps_of place told ≡ []
     → AllLinks links told → AllLinks new (told ++ map (tells place) (happened (length links) (came entry peer) ∷ map (noting (length links)) []))
 links_came place links new k' entry peer told is owner to_is sent unborn all = λ l k at.
-    elim get_pushed links l k' k (ap (λ xs. slice_get xs l) (sym is) ∙ at) as (λ _. IsLinkOf k (history l (steps_of k.owner (told ++ map (tells place) (happened (length links) (came entry peer) ∷ map (noting (length links)) []))))) [
+    elim (get_pushed links l k' k (ap (λ xs. slice_get xs l) (sym is) ∙ at)) as (λ _. IsLinkOf k (history l (steps_of k.owner (told ++ map (tells place) (happened (length links) (came entry peer) ∷ map (noting (length links)) []))))) [
         inl h ↦ link_kept l place (length links) k told (happened (length links) (came entry peer)) [] (quiet_event (l == length links) (came entry peer) refl) (all l k h)
       | inr h ↦ newest l k h.0 h.1
       ]

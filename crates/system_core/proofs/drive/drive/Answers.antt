@@ -1,0 +1,21 @@
+use Rattle.std.proofs.Common.{◌≡◌, ap, ◌∙◌, sym, length}
+use Rattle.conn_machine.specs.Events.{shape_of}
+use Rattle.system_core.proofs.Driving.{SameState, enabled_same, asked_same, driven_by, same_len}
+use Rattle.system_core.proofs.drive.drive.Goals as goal
+
+pub step-requires-clause-enabled : goal.step-requires-clause-enabled
+step-requires-clause-enabled c =
+    let s : SameState c.args.conn.now c.reserve.new.self = record {
+      client = c.reserve.ensures.client; current = c.reserve.ensures.current; phase = c.reserve.ensures.phase; stage = c.reserve.ensures.stage;
+      input = same_len c.reserve.new.self.input c.args.conn.now.input c.reserve.ensures.input; over = c.reserve.ensures.over; pending = c.reserve.ensures.pending;
+    } in
+    enabled_same (shape_of c.args.event) c.args.conn.now c.reserve.new.self s c.requires.enabled
+
+pub step-requires-clause-asked : goal.step-requires-clause-asked
+step-requires-clause-asked c = asked_same c.args.event c.args.conn.now c.reserve.new.self c.reserve.ensures.current c.requires.asked
+
+pub returns-in_ok-tell_notes-clause-driven : goal.returns-in_ok-tell_notes-clause-driven
+returns-in_ok-tell_notes-clause-driven c =
+    driven_by c.args.event c.args.conn.now c.reserve.new.self c.step.new.self c.tell_notes.new.conn c.args.notes.now.items c.tell_notes.new.notes.items
+    c.reserve.ensures.client c.reserve.ensures.current c.reserve.ensures.pending c.reserve.ensures.prompt c.reserve.ensures.reached
+    c.step.ensures.client c.in_ok-step.ensures.prompt c.step.ensures.reached c.in_ok-tell_notes.ensures.noted c.in_ok-tell_notes.ensures.drained
