@@ -26,7 +26,7 @@ use Rattle.conn_machine.specs.Prompt.{IsPrompt}
 use Rattle.conn_machine.specs.Reached.{Reached, IsDrained, IsOpen, Waits, pending_of, back_pending_of, pending_to}
 use Rattle.system_core.specs.Records.{noting}
 use Rattle.system_core.specs.Drives.{MayFollow, Noted, Driven, DrivenAt}
-use Rattle.system_core.proofs.Places.{get_at, get_within, same_or_not, get_set_same, get_set_other}
+use Rattle.system_core.proofs.Places.{get_at, get_within, same_or_not, get_set_same, get_set_other, get_pushed}
 
 pub noted_none : (c : Conn) (old : List Note) → Noted c c old old
 noted_none c old = record {
@@ -160,7 +160,7 @@ driven_at i c x step conns new_conns old new is d = record { after = x; conns_ar
 abbrev pub NoneAbove : List Conn → ℕ → Type 0
 NoneAbove conns n = (i : ℕ) (c : Conn) → slice_get conns i ≡ Some c → c.current.number ≤ n
 
-after_within : (e : ConnEvent) (m n : ℕ) → number_after e 0 ≤ n → m ≤ n → number_after e m ≤ n
+pub after_within : (e : ConnEvent) (m n : ℕ) → number_after e 0 ≤ n → m ≤ n → number_after e m ≤ n
 after_within (event.Bytes piece) m n a b = b
 after_within event.End m n a b = b
 after_within event.Failed m n a b = b
@@ -173,13 +173,20 @@ after_within (event.Back link e) m n a b = b
 after_within (event.Took k) m n a b = b
 after_within event.Stop m n a b = b
 
-pub none_above : (e : ConnEvent) (conns : List Conn) (i n : ℕ) (c x : Conn) → slice_get conns i ≡ Some c → x.current.number ≡ number_after e c.current.number → number_after e 0 ≤ n
-    → NoneAbove conns n → NoneAbove (set conns i x) n
-none_above e conns i n c x at is below all = λ j d g. elim (same_or_not j i) as (λ _. d.current.number ≤ n) [
+pub none_above : (conns : List Conn) (i n : ℕ) (x : Conn) → x.current.number ≤ n → NoneAbove conns n → NoneAbove (set conns i x) n
+none_above conns i n x below all = λ j d g. elim (same_or_not j i) as (λ _. d.current.number ≤ n) [
     inr apart ↦ all j d (sym (get_set_other conns i j x apart) ∙ g)
-  | inl same ↦ subst (λ (y : Conn). y.current.number ≤ n) (sym (get_set_same conns i x d (ap (λ (k : ℕ). slice_get (set conns i x) k) (sym same) ∙ g)))
-      (subst (λ (k : ℕ). k ≤ n) (sym is) (after_within e c.current.number n below (all i c at)))
+  | inl same ↦ subst (λ (y : Conn). y.current.number ≤ n) (sym (get_set_same conns i x d (ap (λ (k : ℕ). slice_get (set conns i x) k) (sym same) ∙ g))) below
   ]
+
+pub none_above_pushed : (conns : List Conn) (n : ℕ) (x : Conn) → x.current.number ≤ n → NoneAbove conns n → NoneAbove (conns ++ x ∷ []) n
+none_above_pushed conns n x below all = λ j d g. elim (get_pushed conns j x d g) as (λ _. d.current.number ≤ n) [
+    inl old ↦ all j d old
+  | inr last ↦ subst (λ (y : Conn). y.current.number ≤ n) (sym last.1) below
+  ]
+
+pub none_above_more : (conns : List Conn) (n m : ℕ) → n ≤ m → NoneAbove conns n → NoneAbove conns m
+none_above_more conns n m up all = λ j d g. let h : d.current.number ≤ n = all j d g in omega arith
 
 pub same_len : {X A : Type 0} (v w : Vec X A) → v.items ≡ w.items → vec_len v ≡ vec_len w
 same_len v w e = omega (arith, v.ok, w.ok, ap length e)

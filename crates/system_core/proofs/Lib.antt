@@ -6,3 +6,4 @@ pub mod Ends
 pub mod Driving
 pub mod Saying
 pub mod Choosing
+pub mod Coming

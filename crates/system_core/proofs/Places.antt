@@ -51,3 +51,19 @@ pub get_at : {X : Type 0} (xs : List X) (i : ℕ) (x : X) → i < length xs → 
 get_at [] i x h e = absurd (omega arith)
 get_at (y ∷ xs) zero x h e = ap Some e
 get_at (y ∷ xs) (suc i) x h e = get_at xs i x (omega arith) e
+
+pub some_at : {X : Type 0} (xs : List X) (i : ℕ) → i < length xs → (x : X) × (slice_get xs i ≡ Some x)
+some_at [] i h = absurd (omega (arith, h))
+some_at (x ∷ xs) zero h = (x, refl)
+some_at (x ∷ xs) (suc i) h = some_at xs i (omega (arith, h))
+
+-- what an index gives
+pub indexed : {X : Type 0} (xs : List X) (i : ℕ) (x y : X) → slice_get xs i ≡ Some x → y ≡ get_or xs i y → y ≡ x
+indexed [] i x y at is = absurd (let f : ⊥ = cc in f)
+indexed (z ∷ xs) zero x y at is = cc
+indexed (z ∷ xs) (suc i) x y at is = indexed xs i x y at is
+
+pub length_set : {X : Type 0} (xs : List X) (i : ℕ) (x : X) → length (set xs i x) ≡ length xs
+length_set [] i x = refl
+length_set (z ∷ xs) zero x = refl
+length_set (z ∷ xs) (suc i) x = ap suc (length_set xs i x)

@@ -38,7 +38,7 @@ takable c link (back.Bytes piece) b may = tt
 takable c link back.End b may = tt
 takable c link back.Failed b may = tt
 takable c link (back.Took n) true may = may.2
-takable c link (back.Took n) false may = may.3
+takable c link (back.Took n) false may = may.2.1
 
 says_step : (c : Conn) (link : ℕ) (e : BackEvent) (b : Bool) → (link == c.client.link) ≡ b → IsEnabled (shape_on b link (back_shape_of e)) c → Says link e (step_of c (told_on b link e))
 says_step c link (back.Bytes piece) true own may = ap (λ (l : ℕ). happened l (gave piece.now)) (sym (eq_true link c.client.link own))
@@ -48,7 +48,7 @@ says_step c link (back.Took n) true own may = (take n (pending_of c), took_lengt
 says_step c link (back.Bytes piece) false own may = refl
 says_step c link back.End false own may = refl
 says_step c link back.Failed false own may = refl
-says_step c link (back.Took n) false own may = (take n (back_pending_of c), took_length n (back_pending_of c) may.3, refl)
+says_step c link (back.Took n) false own may = (take n (back_pending_of c), took_length n (back_pending_of c) may.2.1, refl)
 
 plain_happened : (r : Records) (owners : List ℕ) (link : ℕ) (e : LinkEvent) → link < length owners → note_by e ≡ [] → IsPlain r owners (happened link e)
 plain_happened r owners link e within none = record {

@@ -1,5 +1,5 @@
 // One event of one connection, and the notes that follow it.
-ghost use Rattle.std.specs.Prelude.{◌≡◌, OnOk};
+ghost use Rattle.std.specs.Prelude.{◌≡◌, ◌≤◌, ℕ, OnOk};
 ghost use Rattle.conn_machine.specs.Events.{IsEnabled, IsAsked, bytes_of, shape_of, step_of, number_after};
 ghost use Rattle.conn_machine.specs.Reached.{IsDrained};
 ghost use Rattle.system_core.specs.Drives.{Noted, Driven};
@@ -19,7 +19,8 @@ pub(crate) fn drive(
     requires enabled { IsEnabled (shape_of event) conn.old }
     requires asked { IsAsked event conn.old }
     ensures driven { OnOk result (Driven (step_of conn.old event.entry) conn.old conn.new notes.old.items notes.new.items) }
-    ensures number { OnOk result (conn.new.current.number ≡ number_after event.entry conn.old.current.number) }
+    // It isn't pinned to a greater number than the event's or its own.
+    ensures number { (n : ℕ) → number_after event.entry 0 ≤ n → conn.old.current.number ≤ n → conn.new.current.number ≤ n }
 {
     conn.reserve(bytes_of_event(&event))?;
     conn.step(alloc, event)?;
@@ -41,7 +42,7 @@ fn bytes_of_event(event: &ConnEvent<'_>) -> usize
 fn tell_notes(alloc: Global, conn: &mut Conn, notes: &mut Vec<Note>) -> Result<(), Memory>
     ensures noted { OnOk result (Noted conn.old conn.new notes.old.items notes.new.items) }
     ensures drained { OnOk result (IsDrained conn.new) }
-    ensures number { OnOk result (conn.new.current.number ≡ conn.old.current.number) }
+    ensures number { conn.new.current.number ≡ conn.old.current.number }
 {
     while let Some(note) = conn.take_note(alloc) {
         notes.push(note)?;

@@ -1,5 +1,5 @@
 // What happens on a link.
-ghost use Rattle.std.specs.Prelude.{◌≡◌, ◌<◌, ◌==◌, ℕ, Err, OnOk, MatchOption, MatchResult, length, slice_get};
+ghost use Rattle.std.specs.Prelude.{◌≡◌, ◌<◌, ◌==◌, ℕ, Err, OnOk, MatchOption, MatchResult, IsTrue, ◌↔◌, length, slice_get};
 ghost use Rattle.conn_machine.specs.declared.conn.Conn.{Conn as ConnOf};
 ghost use Rattle.conn_machine.specs.Events.{back_shape_of, back_kind_of, kind_of};
 ghost use Rattle.system_core.specs.Views.{IsConnOf};
@@ -10,7 +10,7 @@ ghost use Rattle.system_core.specs.declared.event.Event.TheVariants.{Bytes as Ga
 
 use crate::event::{Kind, Refused};
 use crate::system::System;
-use conn_machine::{BackEvent, BackShape, Conn, ConnEvent, EventShape};
+use conn_machine::{BackEvent, BackShape, Conn, ConnEvent, EventKind, EventShape};
 use px_base::{Bytes, Memory};
 use std::alloc::Global;
 
@@ -33,13 +33,13 @@ impl System {
         ensures answers { LinkAnswers self.old link (MayHappen link (back_shape_of event.entry)) (Kind.Conn (back_kind_of (back_shape_of event.entry))) result self.new }
         ensures ran { OnOk result (RanOn link event.entry self.old self.new) }
     {
-        let place = self.may_happen(link, event.shape())?;
+        let place = self.link_waits(link, event.shape())?;
         self.tell(alloc, place, link, event)?;
         Ok(())
     }
 
     // The place of the connection of a link on which this may happen.
-    fn may_happen(&self, link: u32, shape: BackShape) -> Result<usize, Refused>
+    fn link_waits(&self, link: u32, shape: BackShape) -> Result<usize, Refused>
         ensures { MatchResult result
             (λ i. (c : ConnOf) × IsConnOf self.now link i c × MayHappen link shape c)
             (λ e. LinkAnswers self.now link (MayHappen link shape) (Kind.Conn (back_kind_of shape)) (Err e) self.now) }
@@ -48,7 +48,7 @@ impl System {
             return Err(Refused::NoSuchLink { link });
         };
         let conn = &self.clients.conns[place];
-        if !conn.enabled(shape_on(link == conn.client.link, link, shape)) {
+        if !may_happen(conn, link, shape) {
             return Err(Refused::NotEnabled {
                 kind: Kind::Conn(shape.kind()),
                 state: conn.state(),
@@ -67,7 +67,7 @@ impl System {
             return Err(Refused::NoSuchLink { link });
         };
         let conn = &self.clients.conns[place];
-        if link != conn.client.link || !conn.enabled(shape) {
+        if !may_be_done(conn, link, shape) {
             return Err(Refused::NotEnabled {
                 kind: Kind::Conn(shape.kind()),
                 state: conn.state(),
@@ -109,6 +109,18 @@ impl System {
         clients.drive(alloc, place, told_on(own, link, event), &mut self.notes)?;
         Ok(())
     }
+}
+
+fn may_happen(conn: &Conn, link: u32, shape: BackShape) -> bool
+    ensures { IsTrue result ↔ MayHappen link shape conn.now }
+{
+    conn.enabled(shape_on(link == conn.client.link, link, shape))
+}
+
+fn may_be_done(conn: &Conn, link: u32, shape: EventShape) -> bool
+    ensures { IsTrue result ↔ MayBeDone link shape conn.now }
+{
+    link == conn.client.link && conn.enabled(shape)
 }
 
 fn shape_on(own: bool, link: u32, shape: BackShape) -> EventShape

@@ -1,5 +1,5 @@
 // The configurations, each with the next number.
-ghost use Rattle.std.specs.Prelude.{◌≡◌, ◌+◌, ◌++◌, ◌∷◌, [], None, Some, OnOk, IfOk, IfNone, IfSome, length, IsTrue, ◌↔◌};
+ghost use Rattle.std.specs.Prelude.{◌≡◌, ◌≤◌, ◌+◌, ◌++◌, ◌∷◌, [], None, Some, OnOk, IfOk, IfNone, IfSome, length, IsTrue, ◌↔◌};
 ghost use Rattle.std.specs.Option.{ForSome};
 ghost use Rattle.std.specs.Arc.{arc_value};
 ghost use Rattle.conn_machine.specs.Parts.{issue_plan};
@@ -64,7 +64,7 @@ impl Timeline {
     pub(crate) fn publish(&mut self) -> Result<(), Memory>
         ensures plans { OnOk result (IfSome (issue_plan self.old.waiting) (λ p. plans_in self.new.earlier.items self.new.newest ≡ plans_in self.old.earlier.items self.old.newest ++ p ∷ [])) }
         ensures waiting { OnOk result (issue_plan self.new.waiting ≡ None) }
-        ensures earlier { length self.new.earlier.items ≡ length self.old.earlier.items }
+        ensures more { length self.old.earlier.items ≤ length self.new.earlier.items }
     {
         self.earlier.reserve(1)?;
         if let Some(issue) = self.waiting.take() {
