@@ -1,24 +1,15 @@
 -- What an event tells.
-use Rattle.std.proofs.Common.{◌≡◌, List, [], ◌∷◌, ◌++◌, ℕ, Option, Some, sym, subst}
-use Rattle.link_world.specs.Log.{dialled}
-use Rattle.conversation.specs.Steps.{Step, happened, IsNew}
-use Rattle.conn_machine.specs.Events.{dial_step, step_of, back_step_of, shape_of, IsEnabled, IsBackEnabled, ServerAfter}
-use Rattle.conn_machine.specs.Reached.{Reached, Opened, back_pending_of, Waits, trail_of, pending_of}
-use Rattle.conn_machine.specs.declared.parts.Aim.{Aim}
-use Rattle.conn_machine.specs.declared.parts.Stage.TheVariants.{Dial}
+use Rattle.std.proofs.Common.{◌≡◌, ◌+◌, ◌≤◌, List, [], ◌∷◌, ◌++◌, ℕ, length, sym, ◌∙◌, ap, subst, vec_len}
+use Rattle.conversation.specs.Steps.{Step}
+use Rattle.conn_machine.specs.Events.{step_of, back_step_of, shape_of, IsEnabled, IsBackEnabled, ServerAfter}
+use Rattle.conn_machine.specs.Reached.{Reached, back_pending_of, pending_to, pending_of}
 use Rattle.conn_machine.specs.declared.event.ConnEvent.{ConnEvent}
 use Rattle.conn_machine.specs.declared.event.ConnEvent.TheVariants as event
 use Rattle.conn_machine.specs.declared.event.BackEvent.{BackEvent}
+use Rattle.conn_machine.specs.declared.event.EventShape.{EventShape}
+use Rattle.conn_machine.specs.declared.event.EventShape.TheVariants as shape
+use Rattle.conn_machine.specs.declared.parts.Current.{Current}
 use Rattle.conn_machine.specs.declared.conn.Conn.{Conn}
-use Rattle.conn_machine.proofs.Opens.{opened_at}
-
--- a machine that waits for a link has an aim
-pub dial_told : {c d : Conn} {steps : List Step} (link : ℕ) → Waits Dial c
-    → ((a : Aim) → c.current.aim ≡ Some a → IsNew link steps → Reached steps c → Reached (steps ++ happened link (dialled a.server.host a.server.port) ∷ []) d)
-    → IsNew link steps → Reached steps c → Reached (steps ++ dial_step link c.current.aim ∷ []) d
-dial_told {c} {d} {steps} link w tells new r =
-    let o : Opened steps c.client c.current (trail_of c) c.input.items (pending_of c) c.notes.items c.over Dial = opened_at w r in
-    subst (λ (m : Option Aim). Reached (steps ++ dial_step link m ∷ []) d) (sym o.stage.holds.aim_is) (tells o.stage.holds.aim o.stage.holds.aim_is new r)
 
 -- the same of an equal event
 pub event_told : (c d : Conn) (steps : List Step) {e : ConnEvent} (v : ConnEvent) → e ≡ v → Reached (steps ++ step_of c v ∷ []) d → Reached (steps ++ step_of c e ∷ []) d
@@ -37,3 +28,18 @@ pub server_told : (c d : Conn) (steps : List Step) {e : ConnEvent} (link : ℕ) 
 server_told c d steps {e} link v is on r =
     let at : IsEnabled (shape_of (event.Back link v)) c = subst (λ (x : ConnEvent). IsEnabled (shape_of x) c) is on in
     event_told c d steps (event.Back link v) is (subst (λ (n : ℕ). Reached (steps ++ back_step_of n (back_pending_of c) v ∷ []) d) (sym at.1) r)
+
+-- what may come still may, where room was made
+pub still_enabled : (c d : Conn) → d.phase ≡ c.phase → d.stage ≡ c.stage → d.over ≡ c.over → d.current ≡ c.current → pending_of d ≡ pending_of c → vec_len d.input ≡ vec_len c.input
+    → (s : EventShape) → IsEnabled s c → IsEnabled s d
+still_enabled c d p s o m n i (shape.Bytes k) on = (p ∙ on.0, o ∙ on.1, on.2, subst (λ (l : ℕ). l + k ≤ 32768) (sym i) on.3)
+still_enabled c d p s o m n i shape.End on = (p ∙ on.0, o ∙ on.1)
+still_enabled c d p s o m n i shape.Failed on = p ∙ on
+still_enabled c d p s o m n i shape.Pinned on = record { phase = p ∙ on.phase; stage = s ∙ on.stage }
+still_enabled c d p s o m n i shape.Looked on = record { phase = p ∙ on.phase; stage = s ∙ on.stage }
+still_enabled c d p s o m n i shape.Drew on = record { phase = p ∙ on.phase; stage = s ∙ on.stage }
+still_enabled c d p s o m n i shape.Dialled on = record { phase = p ∙ on.phase; stage = s ∙ on.stage }
+still_enabled c d p s o m n i (shape.Back link e) on =
+    (record { phase = p ∙ on.0.phase; stage = s ∙ on.0.stage }, on.1 ∙ sym (ap (λ (x : Current). x.link) m), subst (λ (l : List ℕ). IsBackEnabled e l) (sym (ap (λ (x : Current). pending_to x.back) m)) on.2)
+still_enabled c d p s o m n i (shape.Took k) on = (p ∙ on.0, on.1, subst (λ (l : List ℕ). k ≤ length l) (sym n) on.2)
+still_enabled c d p s o m n i shape.Stop on = p ∙ on

@@ -1,15 +1,21 @@
 -- What a scan finds is a request, or one that is refused.
-use Rattle.std.proofs.Common.{◌≡◌, ◌⊎◌, inl, inr, ℕ, ◌+◌, ◌<◌, ◌≤◌, List, ◌++◌, length, take, drop, Result, Ok, Err, refl, sym, ◌∙◌, ap, subst, arith}
+use Rattle.std.proofs.Common.{◌≡◌, ◌⊎◌, inl, inr, ℕ, ◌+◌, ◌<◌, ◌≤◌, List, [], ◌++◌, length, map, take, drop, Option, Result, Ok, Err, refl, sym, ◌∙◌, ap, subst, arith}
+use Rattle.std.specs.Prelude.{IfOk}
+use Rattle.std.specs.declared.alloc.AllocError.{AllocError}
 use Rattle.std.proofs.lemmas.List.{append-nil, length-append, length-take}
 use Rattle.std.proofs.Math.Seq.{take-append_seam, take-length}
 use Rattle.httparse.specs.Grammar.{RequestHead, NeverHasRequest, print_request}
-use Rattle.httparse.specs.Spans.{span_bytes}
+use Rattle.httparse.specs.Spans.{span_bytes, name_and_value}
 use Rattle.httparse.specs.declared.spans.HeaderSpan.{HeaderSpan}
 use Rattle.ip_net.specs.declared.ip.Ip.{Ip}
 use Rattle.head_view.specs.Lines.{lines_at, line_feeds}
-use Rattle.head_view.specs.Scans.{AreHeadSpans, IsHeadAt, HasHead}
+use Rattle.head_view.specs.Scans.{AreHeadSpans, IsHeadAt, HasHead, FindsHead}
+use Rattle.head_view.specs.Views.{view_lines}
+use Rattle.head_view.specs.declared.views.RequestView.{RequestView}
+use Rattle.head_view.specs.declared.scan.Scan.TheVariants.{Whole}
 use Rattle.head_view.specs.declared.scan.HeadSpans.{HeadSpans}
 use Rattle.http_wire.specs.Requests.{TakesRequest, IsHeadFault}
+use Rattle.http_wire.specs.Targets.{host_of_rules}
 use Rattle.http_wire.specs.declared.message.Request.{Request as HttpRequest}
 use Rattle.http_wire.specs.declared.requests.HeadFault.{HeadFault}
 use Rattle.http_wire.specs.declared.requests.HeadFault.TheVariants as fault
@@ -17,8 +23,11 @@ use Rattle.http_wire.specs.declared.requests.RequestRefused.{RequestRefused}
 use Rattle.http_wire.specs.declared.requests.RequestRefused.TheVariants as refused
 use Rattle.link_world.specs.declared.note.Cause.TheVariants as causes
 use Rattle.link_world.specs.declared.note.HeadName.TheVariants as name
-use Rattle.conversation.specs.Asks.{asks, faulty, unserved, broken, large, IsHead, IsServed, IsItem, Makes, fields_of, name_of}
-use Rattle.conn_machine.specs.Parts.{Fits, IsFound}
+use Rattle.conversation.specs.Asks.{asks, faulty, unserved, broken, large, IsHead, IsServed, IsItem, Makes, fields_of, name_of, judged, query_bytes}
+use Rattle.conversation.specs.Plans.{Judged}
+use Rattle.generation.specs.Meaning.{plan_of, judged_by}
+use Rattle.generation.specs.declared.generation.Generation.{Generation}
+use Rattle.conn_machine.specs.Parts.{Fits, IsFound, FindsRow}
 use Rattle.conn_machine.specs.declared.parts.Asked.{Asked}
 use Rattle.conn_machine.specs.declared.parts.Asked.TheVariants.{Request, Refused}
 use Rattle.conn_machine.specs.declared.heads.Found.TheVariants as found
@@ -102,3 +111,26 @@ found_large buf peer n all none short why =
   where
     full : (length buf ≡ 16384) ⊎ (100 < line_feeds buf)
     full = elim why [ inl long ↦ inl (omega arith) | inr many ↦ inr many ]
+
+-- a view of the head that a scan found, with what was made of its target, shows what rules judge of the request
+pub judged_as : (item : List ℕ) (room : List HeaderSpan) (s : HeadSpans) (r : HttpRequest) (v : RequestView) → FindsHead 100 item room (Whole s)
+    → ((h : RequestHead) → IsHeadAt item room s h → (v.method.now ≡ h.method) × (view_lines v ≡ map name_and_value h.fields))
+    → v.host.now ≡ host_of_rules r.host → v.path.now ≡ r.path → v.query.now ≡ query_bytes r.query
+    → (h : RequestHead) → IsHead item h → judged h r ≡ judged_by v
+judged_as item room s r v finds shows host path query h head =
+    let at : IsHeadAt item room s h = finds h [] head.reads head.few in
+    let shown : (v.method.now ≡ h.method) × (view_lines v ≡ map name_and_value h.fields) = shows h at in
+    rw (← shown.0, ← shown.1, ← host, ← path, ← query) refl
+
+-- so the row that is found by the view is the one by whatever head the bytes are
+pub found_row : (g : Generation) (item entry : List ℕ) (peer : Ip) (r : HttpRequest) (v : RequestView) (row : Result (Option ℕ) AllocError)
+    → ((h : RequestHead) → IsHead item h → judged h r ≡ judged_by v)
+    → IfOk row (λ (o : Option ℕ). o ≡ (plan_of g).winner entry (judged_by v) peer)
+    → IfOk row (FindsRow (plan_of g) item entry peer r)
+found_row g item entry peer r v (Ok row) same is = λ h head. ap (λ (j : Judged). (plan_of g).winner entry j peer) (same h head) ∙ sym is
+found_row g item entry peer r v (Err e) same is = tt
+
+-- the same at equal parts
+pub found_at : (g g' : Generation) (item entry : List ℕ) (peer : Ip) (r : HttpRequest) (won won' : Option ℕ) → g ≡ g' → won ≡ won'
+    → FindsRow (plan_of g) item entry peer r won → FindsRow (plan_of g') item entry peer r won'
+found_at g g' item entry peer r won won' same is f = λ h head. ap (λ (x : Generation). (plan_of x).winner entry (judged h r) peer) (sym same) ∙ f h head ∙ is

@@ -51,11 +51,11 @@ away {steps} {k} t same =
     client_apart k.link steps k.entry k.peer t.holds.arrived.0 t.has.link t.holds.arrived.1 (told_link steps t.turn.back t.has.link t.has.sent.back t.sound.one.shown) (t.has.number ∙ sym same)
 
 pub longer_sent : (entry : List ℕ) (peer : Ip) (r : HttpRequest) (row : ℕ) (b : BackLink) (u v : Turn) (e : LinkEvent) (unsent : List ℕ) → IsSent entry peer r row b u
-    → v.ask ≡ u.ask → v.plan ≡ u.plan → v.router ≡ u.router → v.looks ≡ u.looks → v.picks ≡ u.picks → v.spents ≡ u.spents → v.back ≡ Some (longer b e)
+    → v.item ≡ u.item → v.ask ≡ u.ask → v.plan ≡ u.plan → v.router ≡ u.router → v.looks ≡ u.looks → v.picks ≡ u.picks → v.spents ≡ u.spents → v.back ≡ Some (longer b e)
     → message_to (u.plan.target row) r ≡ taken (b.events ++ e ∷ []) ++ unsent
     → IsSent entry peer r row (longer b e) v
-longer_sent entry peer r row b u v e unsent is ask plan router looks_is picks_is spents_is back message = record {
-  won = record { asked = ask ∙ is.won.asked; won = subst (λ (p : Plan). p.winner entry r peer ≡ Some row) (sym plan) is.won.won; router = router ∙ is.won.router };
+longer_sent entry peer r row b u v e unsent is item ask plan router looks_is picks_is spents_is back message = record {
+  won = record { asked = ask ∙ is.won.asked; won = rw (plan, item) is.won.won; router = router ∙ is.won.router };
   looked = rw (plan, looks_is) is.looked;
   picked = rw (plan, picks_is) is.picked;
   accepted = spents_is ∙ is.accepted;
@@ -82,7 +82,7 @@ opened_event {steps} {k} {m} {trail} {input} {pending} {waiting} {over} e status
     let b : BackLink = longer x.link e in
     let v : Turn = moved u b status cause more in
     let shown : IsTold steps x.link = told_link steps u.back x.link x.sent.back t.sound.one.shown in
-    let is : IsSent k.entry k.peer x.r x.row b v = longer_sent k.entry k.peer x.r x.row x.link u v e back.pending x.sent refl refl refl refl refl refl refl exchanged.sent in
+    let is : IsSent k.entry k.peer x.r x.row b v = longer_sent k.entry k.peer x.r x.row x.link u v e back.pending x.sent refl refl refl refl refl refl refl refl exchanged.sent in
     let w : Turning (steps ++ happened m.link e ∷ []) k m' trail input pending' waiting over (IsExchanging k.entry k.peer m' pending' o.done) = record {
       done = o.done;
       turn = v;

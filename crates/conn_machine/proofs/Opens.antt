@@ -14,7 +14,7 @@ use Rattle.conversation.proofs.Tellings.{told_happened, told_failed, told_stoppe
 use Rattle.conversation.proofs.Holdings.{holds_gave, holds_over, holds_took}
 use Rattle.http_wire.specs.declared.message.Request.{Request as HttpRequest}
 use Rattle.http_wire.specs.declared.message.Reply.{Reply as HttpReply}
-use Rattle.conn_machine.specs.Parts.{Trail, AtStage, AtTurn, IsOpenAt, IsAimedAt, Passing}
+use Rattle.conn_machine.specs.Parts.{Trail, AtStage, AtTurn, IsOpenAt, IsUnroutedAt, IsAimedAt, Passing}
 use Rattle.conn_machine.specs.Reached.{Reached, Kept, Opened, PhaseHolds, ending_note, trail_of, pending_of, Waits}
 use Rattle.conn_machine.specs.declared.parts.Client.{Client}
 use Rattle.conn_machine.specs.declared.parts.Current.{Current}
@@ -101,6 +101,17 @@ reached_over {steps} d cause {pending} is o ending = record {
   phase = subst (λ (p : Phase). PhaseHolds p steps d o.done o.last o.rest pending d.current.index) (sym is) ending;
 }
 
+-- the same request at another fact
+abbrev pub turn_as : {m : Current} {input : List ℕ} {last : Option Turn} {rest : List ℕ} {P Q : Turn → Type 0} (h : AtTurn m input last rest P) → Q h.turn → AtTurn m input last rest Q
+turn_as h q = record { turn = h.turn; last_is = h.last_is; pinned = h.pinned; rest_is = h.rest_is; fits = h.fits; asked = h.asked; holds = q }
+
+unrouted_gave : {entry : List ℕ} {peer : Ip} {m : Current} {input pending : List ℕ} {last : Option Turn} {rest : List ℕ} (piece : List ℕ) {input' : List ℕ} → input' ≡ input ++ piece
+    → AtTurn m input last rest (IsUnroutedAt entry peer m input pending) → AtTurn m input last rest (IsUnroutedAt entry peer m input' pending)
+unrouted_gave {m} {input} piece is h = turn_as h (record {
+  open_at = h.holds.open_at;
+  item_is = h.holds.item_is ∙ sym (ap (λ (l : List ℕ). take m.size l) is ∙ take-append-le m.size input piece h.fits);
+})
+
 turn_gave : {m : Current} {input : List ℕ} {last : Option Turn} {rest : List ℕ} {P : Turn → Type 0} (piece : List ℕ) {input' : List ℕ} → input' ≡ input ++ piece
     → AtTurn m input last rest P → AtTurn m input' last (rest ++ piece) P
 turn_gave {m} {input} {rest} piece {input'} is h = record {
@@ -131,7 +142,7 @@ stage_gave Pin k m input pending done last rest piece input' is h = record {
   item = subst (λ (l : List ℕ). IsItem k.peer l h.ask) (sym (ap (λ (l : List ℕ). take m.size l) is ∙ take-append-le m.size input piece h.fits)) h.item;
   asked = h.asked;
 }
-stage_gave Route k m input pending done last rest piece input' is h = turn_gave piece is h
+stage_gave Route k m input pending done last rest piece input' is h = turn_gave piece is (unrouted_gave piece is h)
 stage_gave Look k m input pending done last rest piece input' is h = turn_gave piece is h
 stage_gave Walk k m input pending done last rest piece input' is h = turn_gave piece is h
 stage_gave Dial k m input pending done last rest piece input' is h = turn_gave piece is h
@@ -180,13 +191,12 @@ drop_add zero n xs = let e : zero + n ≡ n = omega arith in ap (λ (k : ℕ). d
 drop_add (suc a) n [] = nothing_left (suc a + n) ∙ sym (nothing_left n)
 drop_add (suc a) n (x ∷ xs) = let e : suc a + n ≡ suc (a + n) = omega arith in ap (λ (k : ℕ). drop k (x ∷ xs)) e ∙ drop_add a n xs
 
--- the same request at another fact
-pub turn_as : {m : Current} {input : List ℕ} {last : Option Turn} {rest : List ℕ} {P Q : Turn → Type 0} (h : AtTurn m input last rest P) → Q h.turn → AtTurn m input last rest Q
-turn_as h q = record { turn = h.turn; last_is = h.last_is; pinned = h.pinned; rest_is = h.rest_is; fits = h.fits; asked = h.asked; holds = q }
-
-open_took : {m : Current} {entry : List ℕ} {peer : Ip} {input pending : List ℕ} {last : Option Turn} {rest : List ℕ} {at : TurnStage} (n : ℕ) {pending' : List ℕ} → pending' ≡ drop n pending
-    → AtTurn m input last rest (IsOpenAt entry peer m pending at) → AtTurn m input last rest (IsOpenAt entry peer m pending' at)
-open_took {pending} n {pending'} is h = turn_as h (record { undecided = h.holds.undecided; plan = h.holds.plan; none = drop_none n pending pending' h.holds.none is })
+unrouted_took : {m : Current} {entry : List ℕ} {peer : Ip} {input pending : List ℕ} {last : Option Turn} {rest : List ℕ} (n : ℕ) {pending' : List ℕ} → pending' ≡ drop n pending
+    → AtTurn m input last rest (IsUnroutedAt entry peer m input pending) → AtTurn m input last rest (IsUnroutedAt entry peer m input pending')
+unrouted_took {pending} n {pending'} is h = turn_as h (record {
+  open_at = record { undecided = h.holds.open_at.undecided; plan = h.holds.open_at.plan; none = drop_none n pending pending' h.holds.open_at.none is };
+  item_is = h.holds.item_is;
+})
 
 aimed_took : {m : Current} {entry : List ℕ} {peer : Ip} {input pending : List ℕ} {last : Option Turn} {rest : List ℕ} {at : TurnStage} (n : ℕ) {pending' : List ℕ} → pending' ≡ drop n pending
     → AtTurn m input last rest (IsAimedAt entry peer m pending at) → AtTurn m input last rest (IsAimedAt entry peer m pending' at)
@@ -214,7 +224,7 @@ stage_took Pin k m input pending done last rest n pending' is h = record {
   item = h.item;
   asked = h.asked;
 }
-stage_took Route k m input pending done last rest n pending' is h = open_took n is h
+stage_took Route k m input pending done last rest n pending' is h = unrouted_took n is h
 stage_took Look k m input pending done last rest n pending' is h = aimed_took n is h
 stage_took Walk k m input pending done last rest n pending' is h = aimed_took n is h
 stage_took Dial k m input pending done last rest n pending' is h = aimed_took n is h

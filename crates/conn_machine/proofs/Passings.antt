@@ -48,10 +48,10 @@ abbrev pub moving : Turn → BackLink → ℕ → Cause → List ℕ → Bool �
 moving u b status cause more whole = record u { back = Some b; status = status; cause = cause; reply = u.reply ++ more; whole = whole }
 
 pub sent_as : (entry : List ℕ) (peer : Ip) (r : HttpRequest) (row : ℕ) (old b : BackLink) (u v : Turn) → IsSent entry peer r row old u
-    → v.ask ≡ u.ask → v.plan ≡ u.plan → v.router ≡ u.router → v.looks ≡ u.looks → v.picks ≡ u.picks → v.spents ≡ u.spents → v.back ≡ Some b
+    → v.item ≡ u.item → v.ask ≡ u.ask → v.plan ≡ u.plan → v.router ≡ u.router → v.looks ≡ u.looks → v.picks ≡ u.picks → v.spents ≡ u.spents → v.back ≡ Some b
     → b.events ≡ old.events → IsSent entry peer r row b v
-sent_as entry peer r row old b u v is ask plan router looks_is picks_is spents_is back events = record {
-  won = record { asked = ask ∙ is.won.asked; won = subst (λ (p : Plan). p.winner entry r peer ≡ Some row) (sym plan) is.won.won; router = router ∙ is.won.router };
+sent_as entry peer r row old b u v is item ask plan router looks_is picks_is spents_is back events = record {
+  won = record { asked = ask ∙ is.won.asked; won = rw (plan, item) is.won.won; router = router ∙ is.won.router };
   looked = rw (plan, looks_is) is.looked;
   picked = rw (plan, picks_is) is.picked;
   accepted = spents_is ∙ is.accepted;
@@ -179,7 +179,7 @@ halted_gave {steps} {k} {m} {trail} {input} {pending} {waiting} {over} piece {m'
     let message : message_to (u.plan.target x.row) x.r ≡ taken (x.link.events ++ gave piece ∷ []) ++ x.sent.unsent =
     x.sent.message ∙ ap (λ (l : List ℕ). l ++ x.sent.unsent) (sym (taken_more x.link.events (gave piece) ∙ append-nil (taken x.link.events))) in
     let is : IsSent k.entry k.peer x.r x.row b (moving u b u.status u.cause [] false) =
-    longer_sent k.entry k.peer x.r x.row x.link u (moving u b u.status u.cause [] false) (gave piece) x.sent.unsent x.sent refl refl refl refl refl refl refl message in
+    longer_sent k.entry k.peer x.r x.row x.link u (moving u b u.status u.cause [] false) (gave piece) x.sent.unsent x.sent refl refl refl refl refl refl refl refl message in
     turned x.link b u.status u.cause [] false (λ t. Unit {0}) t x.sent.back refl (told_elsewhere k.link m.link steps (gave piece) (away t))
     (all_shown steps m.link (gave piece) k.entry k.peer o.done x.apart t.sound.all)
     alike router (status ∙ sym t.tied.status) (cause ∙ sym t.tied.cause) (sym (append-nil pending))
@@ -328,7 +328,7 @@ opened_back_failed {steps} {k} {m} {trail} {input} {pending} {waiting} {over} ol
     let after : Exchanged (message_to (u.plan.target x.row) x.r) x.r.method (taken x.link.events) (given x.link.events) x.content x.ended true back = step (message_to (u.plan.target x.row) x.r) x.r.method (taken x.link.events) (given x.link.events) x.content x.ended x.failed before in
     let reply_is : back.reply ≡ x.back.reply = reply_same ∙ sym (ap (λ (b : BackView). b.reply) same) in
     let passing : Passing back.reply x.r v x.content pending = subst (λ (p : Option HttpReply). Passing p x.r v x.content pending) (sym reply_is) (passing_as x.back.reply x.r u b x.content pending x.passing) in
-    let is : IsSent k.entry k.peer x.r x.row b v = sent_as k.entry k.peer x.r x.row x.link b u v x.sent refl refl refl refl refl refl refl refl in
+    let is : IsSent k.entry k.peer x.r x.row b v = sent_as k.entry k.peer x.r x.row x.link b u v x.sent refl refl refl refl refl refl refl refl refl in
     let shown : IsTold steps x.link = told_link steps u.back x.link x.sent.back t.sound.one.shown in
     let w : Turning (steps ++ failed m.link ∷ []) k m' trail input pending waiting over (IsExchanging k.entry k.peer m' pending o.done) =
     turned x.link b u.status u.cause [] false (IsExchanging k.entry k.peer m' pending o.done) t x.sent.back refl (told_failed k.link m.link steps)
@@ -376,7 +376,7 @@ opened_whole {steps} {k} {m} {trail} {input} {pending} {waiting} {over} done_is 
     let v : Turn = moving u x.link u.status u.cause [] true in
     let same : x.back ≡ done_is.0 = (let s : Some x.back ≡ Some done_is.0 = sym x.back_is ∙ done_is.1 in cc) in
     let e : Ends x.content x.back = state_at state.Done x.back x.r.method (given x.link.events) x.content x.ended x.failed (ap (λ (y : BackView). y.state) same ∙ done_is.2) x.exchanged.state in
-    let is : IsSent k.entry k.peer x.r x.row x.link v = sent_as k.entry k.peer x.r x.row x.link x.link u v x.sent refl refl refl refl refl refl refl refl in
+    let is : IsSent k.entry k.peer x.r x.row x.link v = sent_as k.entry k.peer x.r x.row x.link x.link u v x.sent refl refl refl refl refl refl refl refl refl in
     let shown : IsTold steps x.link = told_link steps u.back x.link x.sent.back t.sound.one.shown in
     let w : Turning steps k m trail input pending waiting over (λ (y : Turn). y.whole ≡ true) =
     turned x.link x.link u.status u.cause [] true (λ (y : Turn). y.whole ≡ true) t x.sent.back refl refl t.sound.all
@@ -438,7 +438,7 @@ opened_no_reply {steps} {k} {m} {trail} {input} {pending} {waiting} {over} c clo
     state_at (state.Broken c) x.back x.r.method (given x.link.events) x.content x.ended x.failed (ap (λ (y : BackView). y.state) same ∙ lost.2) x.exchanged.state in
     let received : Receives x.r.method (given x.link.events) x.content None = subst (Receives x.r.method (given x.link.events) x.content) none x.exchanged.received in
     let p : Passing None x.r u x.content pending = subst (λ (y : Option HttpReply). Passing y x.r u x.content pending) none x.passing in
-    let is : IsSent k.entry k.peer x.r x.row x.link v = sent_as k.entry k.peer x.r x.row x.link x.link u v x.sent refl refl refl refl refl refl refl refl in
+    let is : IsSent k.entry k.peer x.r x.row x.link v = sent_as k.entry k.peer x.r x.row x.link x.link u v x.sent refl refl refl refl refl refl refl refl refl in
     let own_is : IsOwnText 502 (closes u) (u.reply ++ text) =
     subst (IsOwnText 502 (closes u)) (sym (ap (λ (l : List ℕ). l ++ text) p.2)) (own_text_of m trail u 502 close text t.tied t.asked close_is own) in
     let shown : IsTold steps x.link = told_link steps u.back x.link x.sent.back t.sound.one.shown in

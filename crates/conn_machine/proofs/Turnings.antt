@@ -16,15 +16,15 @@ use Rattle.link_world.specs.declared.note.HeadName.TheVariants as name
 use Rattle.link_world.specs.declared.note.EndCause.{EndCause}
 use Rattle.link_world.specs.declared.note.EndCause.TheVariants as ending
 use Rattle.link_world.specs.Log.{LinkEvent, ends}
-use Rattle.conversation.specs.Plans.{Plan}
+use Rattle.conversation.specs.Plans.{Plan, IsWinner}
 use Rattle.conversation.specs.Steps.{Step, pinned, history, failures, stops}
-use Rattle.conversation.specs.Asks.{Ask, asks, faulty, unserved, broken, large, refusal, name_of}
-use Rattle.conversation.specs.Turns.{Stage as TurnStage, unrouted, routed, Turn, note_of, closes, end_of, ends_after, Answers, AnswersBy, AnswersOwn, IsOwnText, IsUndecided, IsUnrouted}
+use Rattle.conversation.specs.Asks.{IsItem, IsHead, judged, Ask, asks, faulty, unserved, broken, large, refusal, name_of}
+use Rattle.conversation.specs.Turns.{Stage as TurnStage, unrouted, routed, Turn, note_of, closes, end_of, ends_after, Routes, Answers, AnswersBy, AnswersOwn, IsOwnText, IsUndecided, IsUnrouted}
 use Rattle.conversation.specs.Served.{of_last, notes_of, IsKept, EndHolds, IsAnswered}
 use Rattle.conversation.specs.Holding.{told, Holds, Sound}
 use Rattle.conversation.proofs.Tellings.{told_pinned, sound_pinned}
 use Rattle.conversation.proofs.Holdings.{all_both, cut_at, holds_pinned, holds_replied, holds_done, fresh_turn}
-use Rattle.conn_machine.specs.Parts.{Trail, Tied, TiedBy, Fits, refused_status, IsRoute, issue_plan, end_by, note_by, AtStage, AtTurn, IsAim, IsOpenAt, IsAimedAt}
+use Rattle.conn_machine.specs.Parts.{Trail, Tied, TiedBy, Fits, refused_status, FindsRow, IsRoute, issue_plan, end_by, note_by, AtStage, AtTurn, IsAim, IsOpenAt, IsUnroutedAt, IsAimedAt}
 use Rattle.conn_machine.specs.Reached.{Reached, Opened, PhaseHolds, ending_note, closed_by, trail_of, pending_of}
 use Rattle.conn_machine.specs.declared.pins.Routed.{Routed}
 use Rattle.conn_machine.specs.declared.pins.Routed.TheVariants as route
@@ -38,7 +38,7 @@ use Rattle.conn_machine.specs.declared.parts.Stage.TheVariants.{Head, Pin, Route
 use Rattle.conn_machine.specs.declared.parts.Phase.{Phase}
 use Rattle.conn_machine.specs.declared.parts.Phase.TheVariants.{Open, Over}
 use Rattle.conn_machine.specs.declared.conn.Conn.{Conn}
-use Rattle.conn_machine.proofs.Opens.{holds_as, reached_open}
+use Rattle.conn_machine.proofs.Opens.{holds_as, turn_as, reached_open}
 
 -- what an open machine keeps of a pinned request
 pub record Turning (steps : List Step) (k : Client) (m : Current) (trail : Trail) (input pending : List ℕ) (waiting : List Note) (over : Bool) (P : Turn → Type 0) : Type 0 where
@@ -123,7 +123,7 @@ opened_pinned {steps} {k} {m} {trail} {input} {pending} {waiting} {over} p {m'} 
     let closed_is : closed_by m.pinned k.link o.last ≡ [] = ap (λ (b : Bool). closed_by b k.link o.last) o.stage.unpinned ∙ ap (of_last (notes_of k.link)) o.stage.last_is in
     let before : Holds (told k.link steps) k.link k.entry k.peer o.done None o.rest pending waiting [] [] over m.number m.index =
     holds_as refl (sym o.stage.last_is) refl refl refl (sym closed_is) refl refl refl refl o.holds in
-    let t : Turning (steps ++ pinned p ∷ []) k m' trail' input pending waiting over (IsOpenAt k.entry k.peer m' pending unrouted) = record {
+    let t : Turning (steps ++ pinned p ∷ []) k m' trail' input pending waiting over (IsUnroutedAt k.entry k.peer m' input pending) = record {
       done = o.done;
       turn = u;
       rest = drop m.size input;
@@ -148,7 +148,10 @@ opened_pinned {steps} {k} {m} {trail} {input} {pending} {waiting} {over} p {m'} 
       rest_is = ap (λ (n : ℕ). drop n input) (sym f.size);
       fits = subst (λ (n : ℕ). n ≤ length input) (sym f.size) o.stage.fits;
       asked = subst (λ (a : Asked). Fits a o.stage.ask) (sym f.asked) o.stage.asked;
-      has = record { undecided = fresh_undecided m.index (take m.size input) o.stage.ask p k.entry k.peer; plan = f.issue; none = o.stage.none };
+      has = record {
+        open_at = record { undecided = fresh_undecided m.index (take m.size input) o.stage.ask p k.entry k.peer; plan = f.issue; none = o.stage.none };
+        item_is = ap (λ (n : ℕ). take n input) (sym f.size);
+      };
     } in
     opened_turn Route t (at_turn t)
 
@@ -167,14 +170,21 @@ asked_is m ask r is h = subst (λ (a : Asked). Fits a ask) is h
 same_plan : (o : Option Plan) (p q : Plan) → o ≡ Some p → o ≡ Some q → p ≡ q
 same_plan o p q a b = cc
 
+-- the row that is found by each head that the request's bytes are is the one by its head
+routed_by : (entry : List ℕ) (peer : Ip) (bytes : List ℕ) (u : Turn) (r : HttpRequest) (p : Plan) (won : Option ℕ) → IsItem peer u.item u.ask → u.ask ≡ asks r
+    → u.item ≡ bytes → p ≡ u.plan → FindsRow p bytes entry peer r won → Routes u.plan u.item entry peer r won
+routed_by entry peer bytes u r p won item ask item_is plan found =
+    let h : IsItem peer u.item (asks r) = subst (λ (a : Ask). IsItem peer u.item a) ask item in
+    (h.0, h.1, subst (λ (q : Plan). IsWinner q entry (judged h.0 r) peer won) plan (found h.0 (subst (λ (l : List ℕ). IsHead l h.0) item_is h.1)))
+
 -- the router in this row won
 pub opened_won : {steps : List Step} {k : Client} {m : Current} {trail : Trail} {input pending : List ℕ} {waiting : List Note} {over : Bool} (row : ℕ) (aim : Aim) {m' : Current}
     → IsAlike m m' → m'.router ≡ Some row → m'.status ≡ m.status → m'.cause ≡ m.cause → m'.aim ≡ Some aim
-    → IsRoute k.entry k.peer m.asked (issue_plan m.issue) (route.Won row aim)
+    → IsRoute k.entry k.peer (take m.size input) m.asked (issue_plan m.issue) (route.Won row aim)
     → Opened steps k m trail input pending waiting over Route
     → Opened steps k m' trail input pending waiting over Look
 opened_won {steps} {k} {m} {trail} {input} {pending} {waiting} {over} row aim {m'} alike router status cause aim_is won o =
-    let t : Turning steps k m trail input pending waiting over (IsOpenAt k.entry k.peer m pending unrouted) = turning o o.stage in
+    let t : Turning steps k m trail input pending waiting over (IsOpenAt k.entry k.peer m pending unrouted) = turning o (turn_as o.stage o.stage.holds.open_at) in
     let u : Turn = t.turn in
     let v : Turn = record u { router = Some row } in
     let ask : u.ask ≡ asks won.0 = asked_is m u.ask won.0 won.2 t.asked in
@@ -182,7 +192,7 @@ opened_won {steps} {k} {m} {trail} {input} {pending} {waiting} {over} row aim {m
     let unrouted_is : IsUnrouted u = t.has.undecided.stage in
     let undecided : IsUndecided routed k.entry k.peer v = record {
       cause = t.has.undecided.cause;
-      stage = (won.0, row, record { asked = ask; won = subst (λ (p : Plan). p.winner k.entry won.0 k.peer ≡ Some row) plan won.4; router = refl }, unrouted_is.looks, unrouted_is.picks, unrouted_is.spents, unrouted_is.back);
+      stage = (won.0, row, record { asked = ask; won = routed_by k.entry k.peer (take m.size input) u won.0 won.1 (Some row) t.sound.one.item ask o.stage.holds.item_is plan won.4; router = refl }, unrouted_is.looks, unrouted_is.picks, unrouted_is.spents, unrouted_is.back);
       status = t.has.undecided.status;
       reply = t.has.undecided.reply;
       unfinished = t.has.undecided.unfinished;
@@ -326,11 +336,11 @@ refused_answers entry peer t (BackLate l b n) text fits u own = absurd (head_cau
 pub opened_refused : {steps : List Step} {k : Client} {m : Current} {trail : Trail} {input pending : List ℕ} {waiting : List Note} {over : Bool} (cause : Cause) (status : ℕ) (close : Bool) (text : List ℕ) {m' : Current} {pending' : List ℕ}
     → IsAlike m m' → m'.router ≡ m.router → m'.status ≡ status → m'.cause ≡ cause → pending' ≡ text
     → status ≡ refused_status cause → close ≡ is_some (end_by m.index m.asked) → IsOwnText status close text
-    → IsRoute k.entry k.peer m.asked (issue_plan m.issue) (route.Refused cause)
+    → IsRoute k.entry k.peer (take m.size input) m.asked (issue_plan m.issue) (route.Refused cause)
     → Opened steps k m trail input pending waiting over Route
     → Opened steps k m' trail input pending' waiting over Reply
 opened_refused {steps} {k} {m} {trail} {input} {pending} {waiting} {over} cause status close text alike router status_is cause_is in_pending is close_is own refused o =
-    let t : Turning steps k m trail input pending waiting over (IsOpenAt k.entry k.peer m pending unrouted) = turning o o.stage in
+    let t : Turning steps k m trail input pending waiting over (IsOpenAt k.entry k.peer m pending unrouted) = turning o (turn_as o.stage o.stage.holds.open_at) in
     let own_is : IsOwnText (refused_status cause) (closes t.turn) text =
     own_text_of m trail t.turn (refused_status cause) close text t.tied t.asked close_is (subst (λ (s : ℕ). IsOwnText s close text) is own) in
     opened_replied (refused_status cause) cause text alike router (status_is ∙ is) cause_is in_pending t
@@ -340,17 +350,17 @@ opened_refused {steps} {k} {m} {trail} {input} {pending} {waiting} {over} cause 
 pub opened_lost : {steps : List Step} {k : Client} {m : Current} {trail : Trail} {input pending : List ℕ} {waiting : List Note} {over : Bool} (close : Bool) (text : List ℕ) {m' : Current} {pending' : List ℕ}
     → IsAlike m m' → m'.router ≡ m.router → m'.status ≡ 404 → m'.cause ≡ NoRouter → pending' ≡ text
     → close ≡ is_some (end_by m.index m.asked) → IsOwnText 404 close text
-    → IsRoute k.entry k.peer m.asked (issue_plan m.issue) route.Lost
+    → IsRoute k.entry k.peer (take m.size input) m.asked (issue_plan m.issue) route.Lost
     → Opened steps k m trail input pending waiting over Route
     → Opened steps k m' trail input pending' waiting over Reply
 opened_lost {steps} {k} {m} {trail} {input} {pending} {waiting} {over} close text alike router status_is cause_is in_pending close_is own lost o =
-    let t : Turning steps k m trail input pending waiting over (IsOpenAt k.entry k.peer m pending unrouted) = turning o o.stage in
+    let t : Turning steps k m trail input pending waiting over (IsOpenAt k.entry k.peer m pending unrouted) = turning o (turn_as o.stage o.stage.holds.open_at) in
     let u : Turn = t.turn in
     let ask : u.ask ≡ asks lost.0 = asked_is m u.ask lost.0 lost.2 t.asked in
     let plan : lost.1 ≡ u.plan = same_plan (issue_plan m.issue) lost.1 u.plan lost.3 t.has.plan in
     let own_is : IsOwnText 404 (closes u) text = own_text_of m trail u 404 close text t.tied t.asked close_is own in
     opened_replied 404 NoRouter text alike router status_is cause_is in_pending t
-    ((lost.0, ask, subst (λ (p : Plan). p.winner k.entry lost.0 k.peer ≡ None) plan lost.4), own_of 404 u NoRouter text own_is, unrouted_of u 404 NoRouter text t.has.undecided.stage)
+    ((lost.0, ask, routed_by k.entry k.peer (take m.size input) u lost.0 lost.1 None t.sound.one.item ask o.stage.holds.item_is plan lost.4), own_of 404 u NoRouter text own_is, unrouted_of u 404 NoRouter text t.has.undecided.stage)
 
 -- the note that the machine makes is the request's
 pub same_note : (link : ℕ) (m : Current) (trail : Trail) (t : Turn) → Tied m trail t → note_by link m trail.looks trail.picks trail.backs ≡ note_of link t
@@ -488,6 +498,7 @@ pub note_same : (link : ℕ) (m : Current) (a a' : Vec LookNote Global) (b b' : 
 note_same link m a a' b b' d d' e f g = rw (e, f, g) refl
 
 -- what was found of the router, at equal parts
-pub route_at : (text entry : List ℕ) (peer : Ip) (m : Current) (f g : Routed) → text ≡ entry → f ≡ g → IsRoute text peer m.asked (issue_plan m.issue) f → IsRoute entry peer m.asked (issue_plan m.issue) g
-route_at text entry peer m f g a b h =
-    subst (λ (x : Routed). IsRoute entry peer m.asked (issue_plan m.issue) x) b (subst (λ (l : List ℕ). IsRoute l peer m.asked (issue_plan m.issue) f) a h)
+pub route_at : (text entry : List ℕ) (peer : Ip) (bytes item : List ℕ) (m : Current) (f g : Routed) → text ≡ entry → bytes ≡ item → f ≡ g → IsRoute text peer bytes m.asked (issue_plan m.issue) f → IsRoute entry peer item m.asked (issue_plan m.issue) g
+route_at text entry peer bytes item m f g a b e h =
+    subst (λ (x : Routed). IsRoute entry peer item m.asked (issue_plan m.issue) x) e
+    (subst (λ (l : List ℕ). IsRoute entry peer l m.asked (issue_plan m.issue) f) b (subst (λ (l : List ℕ). IsRoute l peer bytes m.asked (issue_plan m.issue) f) a h))

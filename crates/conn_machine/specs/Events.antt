@@ -142,12 +142,12 @@ step_of c (event.Back link e) = back_step_of link (back_pending_of c) e
 step_of c (event.Took n) = happened c.client.link (took (take n (pending_of c)))
 step_of c event.Stop = stopped
 
--- an event of this shape may come on the link to the server
-abbrev pub IsBackEnabled : BackShape → Conn → Type 0
-IsBackEnabled (back_shape.Bytes n) c = 0 < n
-IsBackEnabled back_shape.End c = Unit {0}
-IsBackEnabled back_shape.Failed c = Unit {0}
-IsBackEnabled (back_shape.Took n) c = (0 < n) × (n ≤ length (back_pending_of c))
+-- an event of this shape may come on the link to the server, for which these bytes are pending
+abbrev pub IsBackEnabled : BackShape → List ℕ → Type 0
+IsBackEnabled (back_shape.Bytes n) pending = 0 < n
+IsBackEnabled back_shape.End pending = Unit {0}
+IsBackEnabled back_shape.Failed pending = Unit {0}
+IsBackEnabled (back_shape.Took n) pending = (0 < n) × (n ≤ length pending)
 
 -- An event of this shape may come. Bytes and the end of the client while its link is in use and hasn't ended, bytes
 -- where the client's buffer has room for them; what was asked for in the state that waits for it; what happens on the
@@ -160,7 +160,7 @@ IsEnabled shape.Pinned c = Waits stage.Pin c
 IsEnabled shape.Looked c = Waits stage.Look c
 IsEnabled shape.Drew c = Waits stage.Walk c
 IsEnabled shape.Dialled c = Waits stage.Dial c
-IsEnabled (shape.Back link e) c = Waits stage.Exchange c × (link ≡ c.current.link) × IsBackEnabled e c
+IsEnabled (shape.Back link e) c = Waits stage.Exchange c × (link ≡ c.current.link) × IsBackEnabled e (back_pending_of c)
 IsEnabled (shape.Took n) c = IsOpen c × (0 < n) × (n ≤ length (pending_of c))
 IsEnabled shape.Stop c = IsOpen c
 

@@ -5,7 +5,7 @@ use Rattle.std.specs.declared.sync.Arc.{Arc}
 use Rattle.std.specs.declared.alloc.Global.{Global}
 use Rattle.std.specs.Arc.{arc_value}
 use Rattle.ip_net.specs.declared.ip.Ip.{Ip}
-use Rattle.httparse.specs.Grammar.{MayBecomeRequest}
+use Rattle.httparse.specs.Grammar.{RequestHead, MayBecomeRequest}
 use Rattle.link_world.specs.declared.note.Note.{Note}
 use Rattle.link_world.specs.declared.note.NoteBody.TheVariants as body
 use Rattle.link_world.specs.declared.note.Look.{Look}
@@ -15,10 +15,10 @@ use Rattle.link_world.specs.declared.note.Cause.TheVariants as causes
 use Rattle.link_world.specs.declared.note.HeadName.TheVariants as name
 use Rattle.link_world.specs.declared.note.EndCause.{EndCause}
 use Rattle.link_world.specs.declared.note.EndCause.TheVariants as ending
-use Rattle.conversation.specs.Plans.{Plan, Target}
+use Rattle.conversation.specs.Plans.{Plan, Target, IsWinner}
 use Rattle.link_world.specs.Log.{given, taken, ends}
 use Rattle.head_view.specs.Scans.{HasHead}
-use Rattle.conversation.specs.Asks.{Ask, asks, IsItem, refusal, head_limit, line_limit}
+use Rattle.conversation.specs.Asks.{Ask, asks, IsHead, IsItem, judged, refusal, head_limit, line_limit}
 use Rattle.conversation.specs.Turns.{Stage as TurnStage, Turn, BackLink, links_of, ends_asked, closes, message_to, IsUndecided, unrouted, routed, down, up, refused, picked, sent, IsSent}
 use Rattle.generation.specs.declared.generation.Generation.{Generation}
 use Rattle.generation.specs.Meaning.{plan_of}
@@ -76,12 +76,16 @@ pub record IsAim (a : Aim) (t : Target) : Type 0 where
   pub port : a.server.port ≡ t.port
   pub pass_host : a.pass_host ≡ t.pass_host
 
--- what is made of a request by its configuration
-abbrev pub IsRoute : List ℕ → Ip → Asked → Option Plan → Routed → Type 0
-IsRoute entry peer asked plan route.Unknown = Unit {0}
-IsRoute entry peer asked plan (route.Refused cause) = asked ≡ Refused cause
-IsRoute entry peer asked plan route.Lost = (r : HttpRequest) × (p : Plan) × (asked ≡ Request r) × (plan ≡ Some p) × (p.winner entry r peer ≡ None)
-IsRoute entry peer asked plan (route.Won row aim) = (r : HttpRequest) × (p : Plan) × (asked ≡ Request r) × (plan ≡ Some p) × (p.winner entry r peer ≡ Some row) × IsAim aim (p.target row)
+-- the row that the configuration finds for the request with these bytes, by whatever head they are
+abbrev pub FindsRow : Plan → List ℕ → List ℕ → Ip → HttpRequest → Option ℕ → Type 0
+FindsRow plan item entry peer r won = (h : RequestHead) → IsHead item h → IsWinner plan entry (judged h r) peer won
+
+-- what is made of the request with these bytes by its configuration
+abbrev pub IsRoute : List ℕ → Ip → List ℕ → Asked → Option Plan → Routed → Type 0
+IsRoute entry peer item asked plan route.Unknown = Unit {0}
+IsRoute entry peer item asked plan (route.Refused cause) = asked ≡ Refused cause
+IsRoute entry peer item asked plan route.Lost = (r : HttpRequest) × (p : Plan) × (asked ≡ Request r) × (plan ≡ Some p) × FindsRow p item entry peer r None
+IsRoute entry peer item asked plan (route.Won row aim) = (r : HttpRequest) × (p : Plan) × (asked ≡ Request r) × (plan ≡ Some p) × FindsRow p item entry peer r (Some row) × IsAim aim (p.target row)
 
 -- what was looked up, drawn and dialled for the current request
 pub record Trail : Type 0 where
@@ -163,6 +167,11 @@ pub record IsOpenAt (entry : List ℕ) (peer : Ip) (m : Current) (pending : List
   pub plan : issue_plan m.issue ≡ Some t.plan
   pub none : pending ≡ []
 
+-- nor was a router looked for: its bytes stand at the front
+pub record IsUnroutedAt (entry : List ℕ) (peer : Ip) (m : Current) (input pending : List ℕ) (t : Turn) : Type 0 where
+  pub open_at : IsOpenAt entry peer m pending unrouted t
+  pub item_is : t.item ≡ take m.size input
+
 -- and its server is known
 pub record IsAimedAt (entry : List ℕ) (peer : Ip) (m : Current) (pending : List ℕ) (at : TurnStage) (t : Turn) : Type 0 where
   pub open_at : IsOpenAt entry peer m pending at t
@@ -220,7 +229,7 @@ HasBegun asked aim back =
 abbrev pub AtStage : Stage → Client → Current → (input pending : List ℕ) → List Turn → Option Turn → List ℕ → Type 0
 AtStage Head k m input pending done last rest = AtHead m input pending last rest
 AtStage Pin k m input pending done last rest = AtPin k.peer m input pending last rest
-AtStage Route k m input pending done last rest = AtTurn m input last rest (IsOpenAt k.entry k.peer m pending unrouted)
+AtStage Route k m input pending done last rest = AtTurn m input last rest (IsUnroutedAt k.entry k.peer m input pending)
 AtStage Looking k m input pending done last rest = AtTurn m input last rest (IsAimedAt k.entry k.peer m pending routed)
 AtStage Down k m input pending done last rest = AtTurn m input last rest (IsAimedAt k.entry k.peer m pending down)
 AtStage Walk k m input pending done last rest = AtTurn m input last rest (IsAimedAt k.entry k.peer m pending up)

@@ -4,6 +4,8 @@ use Rattle.std.specs.List.{AllByRecursion}
 use Rattle.link_world.specs.declared.note.Note.{Note}
 use Rattle.link_world.specs.declared.note.NoteBody.{NoteBody}
 use Rattle.link_world.specs.declared.note.NoteBody.TheVariants as body
+use Rattle.link_world.specs.declared.note.EndCause.{EndCause}
+use Rattle.link_world.specs.declared.note.EndCause.TheVariants as ending
 use Rattle.link_world.specs.Log.{notes}
 use Rattle.conversation.specs.Steps.{Step, history, failures, stops}
 use Rattle.conversation.specs.Turns.{Turn}
@@ -134,11 +136,16 @@ pub record HasRoom (n : ℕ) (c : Conn) : Type 0 where
   pub picks : vec_len c.picks < vec_capacity c.picks
   pub backs : vec_len c.backs < vec_capacity c.backs
 
--- the machine isn't broken
+-- another cause than want of memory
+abbrev pub HasMemory : EndCause → Type 0
+HasMemory ending.Memory = ⊥
+HasMemory _ = Unit {0}
+
+-- the machine isn't broken, and doesn't end for want of memory
 abbrev pub IsGoing : Phase → Type 0
 IsGoing Open = Unit {0}
 IsGoing Broken = ⊥
-IsGoing (Over cause) = Unit {0}
+IsGoing (Over cause) = HasMemory cause
 IsGoing (Told cause) = Unit {0}
 
 abbrev pub IsTold : Phase → Type 0

@@ -2,8 +2,10 @@
 ghost use Rattle.std.specs.Prelude.{◌≡◌, ◌≤◌, ◌<◌, ◌+◌, ◌++◌, ◌∷◌, [], List, ℕ, length, take, false, IfOk, OnOk, OnErr, IsTrue, ◌↔◌, vec_len, vec_capacity};
 ghost use Rattle.link_world.specs.Log.{came, gave, gave_end};
 ghost use Rattle.conversation.specs.Steps.{Step, happened, failed, stopped};
+ghost use Rattle.conn_machine.specs.Events.{IsEnabled};
+ghost use Rattle.conn_machine.specs.declared.event.EventShape.{EventShape};
 ghost use Rattle.conn_machine.specs.Prompt.{IsPrompt};
-ghost use Rattle.conn_machine.specs.Reached.{Reached, IsOpen, Waits, KeepsServer, HasRoom, IsEnding, IsGoing, trail_of, pending_of};
+ghost use Rattle.conn_machine.specs.Reached.{Reached, IsOpen, Waits, KeepsServer, HasRoom, IsEnding, IsGoing, trail_of, pending_of, IsDrained};
 
 use crate::heads::{Found, read_head};
 use crate::parts::{Asked, Client, Current, Phase, Stage};
@@ -36,6 +38,7 @@ impl Conn {
         ensures waits { IfOk result (Waits Stage.Head) }
         ensures number { IfOk result (λ c. c.current.number ≡ 0) }
         ensures prompt { IfOk result IsPrompt }
+        ensures drained { IfOk result IsDrained }
         ensures reached { IfOk result (Reached (happened link (came entry.now peer) ∷ [])) }
     {
         let entry = Bytes::from_slice(alloc, entry)?;
@@ -75,6 +78,9 @@ impl Conn {
         ensures phase { self.new.phase ≡ self.old.phase }
         ensures stage { self.new.stage ≡ self.old.stage }
         ensures input { self.new.input.items ≡ self.old.input.items }
+        ensures rest { self.new ≡ record self.old { notes = self.new.notes; looks = self.new.looks; picks = self.new.picks; backs = self.new.backs; input = self.new.input } }
+        ensures notes { self.new.notes.items ≡ self.old.notes.items }
+        ensures enabled { (shape : EventShape) → IsEnabled shape self.old → IsEnabled shape self.new }
         ensures room { OnOk result (HasRoom n self.new) }
         ensures prompt { IsPrompt self.old → IsPrompt self.new }
         ensures over { self.new.over ≡ self.old.over }

@@ -24,6 +24,7 @@ impl Conn {
         ensures prompt { IsPrompt self.old → IsPrompt self.new }
         ensures fewer { IfSome result (λ _. notes_left self.new < notes_left self.old) }
         ensures open { IsOpen self.old → self.new ≡ record self.old { notes = self.new.notes } }
+        ensures opens { IsOpen self.new → IsOpen self.old }
         ensures ending { IsEnding self.old.phase → IsEnding self.new.phase }
         ensures drained { IfNone result (IsDrained self.new) }
         ensures none { IfNone result (self.new ≡ self.old) }

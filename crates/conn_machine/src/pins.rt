@@ -1,17 +1,20 @@
 //! The machine of one client connection: how a request gets its configuration and its router.
 ghost use Rattle.http_wire.specs.Own.{is_own_error};
-ghost use Rattle.std.specs.Prelude.{IsTrue, ◌≡◌, ◌≤◌, ◌++◌, ◌∷◌, [], List, ℕ, None, Some, IfOk, OnOk, IfSome, is_some};
+ghost use Rattle.std.specs.Prelude.{IsTrue, ◌≡◌, ◌≤◌, ◌++◌, ◌∷◌, [], List, ℕ, None, Some, IfOk, OnOk, IfSome, is_some, take};
 ghost use Rattle.std.specs.Arc.{arc_value};
 ghost use Rattle.conversation.specs.Steps.{Step, pinned};
+ghost use Rattle.conversation.specs.Asks.{query_bytes};
 ghost use Rattle.generation.specs.Meaning.{plan_of, aim_of};
-ghost use Rattle.conn_machine.specs.Parts.{end_by, refused_status, IsRoute, IsAim, issue_plan};
+ghost use Rattle.conn_machine.specs.Parts.{end_by, refused_status, FindsRow, IsRoute, IsAim, issue_plan};
 ghost use Rattle.conn_machine.specs.Prompt.{IsPrompt};
-ghost use Rattle.conn_machine.specs.Reached.{Reached, IsOpen, IsGoing, Waits, KeepsServer};
+ghost use Rattle.conn_machine.specs.Reached.{Reached, HasMemory, IsOpen, IsGoing, Waits, KeepsServer};
 
 use crate::conn::Conn;
 use crate::own::own_text;
 use crate::parts::{Aim, Asked, Current, Phase, Stage};
 use generation::{Generation, Target};
+use head_view::{EMPTY_HEADER_SPAN, Scan, scan_request, view};
+use http_wire::{Request, host_of_rules};
 use ip_net::Ip;
 use link_world::{Cause, EndCause, HeadName};
 use px_base::{Bytes, Memory, Server};
@@ -82,6 +85,7 @@ impl Conn {
         let routed = find_route(
             alloc,
             &self.current,
+            self.item(),
             self.client.entry.as_slice(),
             self.client.peer,
         )?;
@@ -116,18 +120,36 @@ impl Conn {
         }
         Ok(())
     }
+
+    // The bytes of the current request.
+    fn item(&self) -> &[u8]
+        ensures { result.now ≡ take self.now.current.size self.now.input.items }
+    {
+        let input = self.input.as_slice();
+        if self.current.size < input.len() {
+            &input[..self.current.size]
+        } else {
+            input
+        }
+    }
 }
 
-// What is made of the request by its configuration.
-fn find_route(alloc: Global, current: &Current, entry: &[u8], peer: Ip) -> Result<Routed, Memory>
-    ensures { IfOk result (IsRoute entry.now peer current.now.asked (issue_plan current.now.issue)) }
+// What is made of the request with these bytes by its configuration.
+fn find_route(
+    alloc: Global,
+    current: &Current,
+    item: &[u8],
+    entry: &[u8],
+    peer: Ip,
+) -> Result<Routed, Memory>
+    ensures { IfOk result (IsRoute entry.now peer item.now current.now.asked (issue_plan current.now.issue)) }
 {
     match &current.asked {
         Asked::Nothing => Ok(Routed::Unknown),
         Asked::Refused(cause) => Ok(Routed::Refused(*cause)),
         Asked::Request(request) => match &current.issue {
             None => Ok(Routed::Unknown),
-            Some(issue) => match issue.winner(alloc, entry, request, peer)? {
+            Some(issue) => match find_row(alloc, issue, request, item, entry, peer)? {
                 Some(row) => match issue.target(row) {
                     Some(target) => Ok(Routed::Won(row, aim_at(alloc, target)?)),
                     None => Err(AllocError),
@@ -135,6 +157,40 @@ fn find_route(alloc: Global, current: &Current, entry: &[u8], peer: Ip) -> Resul
                 None => Ok(Routed::Lost),
             },
         },
+    }
+}
+
+// The row of the router that the configuration gives to the request with these bytes, by its head as it was received.
+// Bytes that are no head don't come here.
+fn find_row(
+    alloc: Global,
+    issue: &Generation,
+    request: &Request,
+    item: &[u8],
+    entry: &[u8],
+    peer: Ip,
+) -> Result<Option<u32>, Memory>
+    ensures { IfOk result (FindsRow (plan_of issue.now) item.now entry.now peer request.now) }
+{
+    let mut room = [EMPTY_HEADER_SPAN; 100];
+    match scan_request(item, &mut room) {
+        Scan::Whole(spans) => {
+            let host = host_of_rules(request.host.as_slice());
+            let path = request.path.as_slice();
+            let view = view(item, &room, &spans, host, path, query_of(request));
+            issue.winner(alloc, entry, &view, peer)
+        }
+        _ => Err(AllocError),
+    }
+}
+
+// The query's bytes, which a target without one hasn't got.
+fn query_of(request: &Request) -> &[u8]
+    ensures { result.now ≡ query_bytes request.now.query }
+{
+    match &request.query {
+        Some(query) => query.as_slice(),
+        None => &[],
     }
 }
 
@@ -156,6 +212,7 @@ fn aim_at(alloc: Global, target: &Target) -> Result<Aim, Memory>
 /// Why the connection ends after the reply to the current request.
 pub(crate) fn end_after(current: &Current) -> Option<EndCause>
     ensures end { result ≡ end_by current.now.index current.now.asked }
+    ensures memory { IfSome result HasMemory }
 {
     match &current.asked {
         Asked::Request(request) => {

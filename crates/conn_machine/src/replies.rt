@@ -88,6 +88,7 @@ impl Conn {
         requires room { vec_len self.old.notes < vec_capacity self.old.notes }
         ensures client { self.new.client ≡ self.old.client }
         ensures number { self.new.current.number ≡ self.old.current.number }
+        ensures going { IsGoing self.new.phase }
         ensures waits { WaitsOver Stage.Head self.new }
         ensures reached { (steps : List Step) → Reached steps self.old → Reached steps self.new }
     {

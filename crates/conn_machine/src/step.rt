@@ -57,7 +57,7 @@ impl Conn {
     fn back_step(&mut self, alloc: Global, event: BackEvent<'_>) -> Result<(), Memory>
         requires waits { Waits Stage.Exchange self.old }
         requires room { vec_len self.old.notes < vec_capacity self.old.notes }
-        requires enabled { IsBackEnabled (back_shape_of event) self.old }
+        requires enabled { IsBackEnabled (back_shape_of event) (back_pending_of self.old) }
         ensures client { self.new.client ≡ self.old.client }
         ensures number { self.new.current.number ≡ self.old.current.number }
         ensures going { OnOk result (IsGoing self.new.phase) }
@@ -98,7 +98,7 @@ impl Conn {
     }
 
     fn back_enabled(&self, shape: BackShape) -> bool
-        ensures { IsTrue result ↔ IsBackEnabled shape self.now }
+        ensures { IsTrue result ↔ IsBackEnabled shape (back_pending_of self.now) }
     {
         match shape {
             BackShape::Bytes(n) => 0 < n,

@@ -169,7 +169,7 @@ const NOT_FOUND: [Act; 2] = [
 
 const UNAVAILABLE: [Act; 2] = [
     Act::Takes(
-        b"HTTP/1.1 503 Service Unavailable\r\nContent-Type: text/plain; charset=utf-8\r\nContent-Length: 20\r\n\r\nno available server\n",
+        b"HTTP/1.1 503 Service Unavailable\r\nContent-Type: text/plain; charset=utf-8\r\nContent-Length: 24\r\n\r\n503 service unavailable\n",
     ),
     Act::Ends,
 ];

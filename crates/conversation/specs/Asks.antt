@@ -7,6 +7,7 @@ use Rattle.body_codec.specs.declared.Framing.TheVariants as framing
 use Rattle.head_view.specs.Lines.{Line as Field, line_feeds}
 use Rattle.head_view.specs.Scans.{HasHead}
 use Rattle.http_wire.specs.Replies.{is_head}
+use Rattle.http_wire.specs.Targets.{host_of_rules}
 use Rattle.http_wire.specs.Requests.{TakesRequest, IsHeadFault}
 use Rattle.http_wire.specs.declared.message.Request.{Request}
 use Rattle.http_wire.specs.declared.requests.HeadFault.{HeadFault}
@@ -15,6 +16,7 @@ use Rattle.link_world.specs.declared.note.Cause.{Cause}
 use Rattle.link_world.specs.declared.note.Cause.TheVariants.{Head, HeadTooLarge}
 use Rattle.link_world.specs.declared.note.HeadName.{HeadName}
 use Rattle.link_world.specs.declared.note.HeadName.TheVariants as name
+use Rattle.conversation.specs.Plans.{Judged}
 
 -- what one request asks for
 pub data Ask : Type 0 where
@@ -47,6 +49,15 @@ fields_of h = map name_and_value h.fields
 -- the head makes this request
 abbrev pub Makes : Ip → RequestHead → Request → Type 0
 Makes peer h r = TakesRequest h.method h.target h.minor (fields_of h) peer (Ok r)
+
+-- the query's bytes, which a target without one hasn't got
+abbrev pub query_bytes : Option (List ℕ) → List ℕ
+query_bytes None = []
+query_bytes (Some q) = q
+
+-- what rules judge of this request, whose head is this one: the head's own method and lines
+abbrev pub judged : RequestHead → Request → Judged
+judged h r = record { method = h.method; host = host_of_rules r.host; path = r.path; query = query_bytes r.query; lines = fields_of h }
 
 -- a request without a body that isn't a HEAD
 pub record IsServed (r : Request) : Type 0 where

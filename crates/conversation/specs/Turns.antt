@@ -1,6 +1,7 @@
 -- One request with what was made of it, and when that is the right answer.
 use Rattle.std.specs.Prelude.{◌≡◌, ◌≢◌, ℕ, ◌==◌, ◌%◌, ◌⊎◌, Bool, true, false, not, List, [], ◌∷◌, ◌++◌, Option, Some, None, if◌then◌else◌, is_some, nat_le}
 use Rattle.ip_net.specs.declared.ip.Ip.{Ip}
+use Rattle.httparse.specs.Grammar.{RequestHead}
 use Rattle.http_wire.specs.Own.{IsOwnReply, content_of}
 use Rattle.http_wire.specs.Spelling.{request_text, reply_text}
 use Rattle.back_machine.specs.Forwarding.{authority_text}
@@ -16,9 +17,9 @@ use Rattle.link_world.specs.declared.note.Cause.{Cause}
 use Rattle.link_world.specs.declared.note.Cause.TheVariants.{Passed, Undecided, Head, HeadTooLarge, NoRouter, Stopped, BodyTooLarge, NoChild, Spent, BackFailed, BackBad, BackLate}
 use Rattle.link_world.specs.declared.note.EndCause.{EndCause}
 use Rattle.link_world.specs.declared.note.EndCause.TheVariants as ending
-use Rattle.conversation.specs.Plans.{Plan, Target}
+use Rattle.conversation.specs.Plans.{Plan, Target, IsWinner}
 use Rattle.conversation.specs.Steps.{Step, history, failures}
-use Rattle.conversation.specs.Asks.{Ask, asks, faulty, unserved, broken, large, refusal}
+use Rattle.conversation.specs.Asks.{Ask, asks, faulty, unserved, broken, large, refusal, IsHead, judged}
 
 -- a link that was dialled for a request: all that happened on it
 pub record BackLink : Type 0 where
@@ -103,10 +104,14 @@ pub record IsUnrouted (t : Turn) : Type 0 where
   pub spents : t.spents ≡ []
   pub back : t.back ≡ None
 
+-- the row that wins the request with these bytes, or none, by its head as it was received
+abbrev pub Routes : Plan → List ℕ → List ℕ → Ip → Request → Option ℕ → Type 0
+Routes plan item entry peer r won = (h : RequestHead) × IsHead item h × IsWinner plan entry (judged h r) peer won
+
 -- the router in this row won the request
 pub record IsRouted (entry : List ℕ) (peer : Ip) (r : Request) (row : ℕ) (t : Turn) : Type 0 where
   pub asked : t.ask ≡ asks r
-  pub won : t.plan.winner entry r peer ≡ Some row
+  pub won : Routes t.plan t.item entry peer r (Some row)
   pub router : t.router ≡ Some row
 
 -- the look's mask has the one server of its balancer
@@ -168,7 +173,7 @@ pub record IsUndecided (at : Stage) (entry : List ℕ) (peer : Ip) (t : Turn) : 
 
 -- no router wins the request
 abbrev pub IsLost : List ℕ → Ip → Turn → Type 0
-IsLost entry peer t = (r : Request) × (t.ask ≡ asks r) × (t.plan.winner entry r peer ≡ None)
+IsLost entry peer t = (r : Request) × (t.ask ≡ asks r) × Routes t.plan t.item entry peer r None
 
 -- the server of the winner's balancer was down
 abbrev pub IsDown : List ℕ → Ip → Turn → Type 0

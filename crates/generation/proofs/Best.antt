@@ -10,7 +10,7 @@ use Rattle.std.proofs.lemmas.Bool.Decides.{eqb_tells}
 use Rattle.std.specs.Cmp.{tied_itself}
 use Rattle.std.specs.Ordering.{nat_cmp, is_lt}
 use Rattle.std.specs.Cmp.Lexicographic.{slice_cmp}
-use Rattle.http_wire.specs.declared.message.Request.{Request}
+use Rattle.conversation.specs.Plans.{Judged}
 use Rattle.generation.specs.declared.route.Route.{Route}
 use Rattle.generation.specs.Winner.{takes, has_won, better, best_of, NoWinner, IsWinner, IsBest}
 use Rattle.generation.specs.Meaning.{target_at, aim_of}
@@ -57,11 +57,11 @@ beats_itself : (r : Route) → ¬ (Beats r r)
 beats_itself r (inl a) = omega (arith, a)
 beats_itself r (inr a) = not_less (sym (tied_itself nat_list_cmp_total r.name) ∙ a.1)
 
-taken : (x : Route) (r : Request) (q : Route) → q ≡ x → takes q r ≡ true → takes x r ≡ true
+taken : (x : Route) (r : Judged) (q : Route) → q ≡ x → takes q r ≡ true → takes x r ≡ true
 taken x r q e t = subst (λ (y : Route). takes y r ≡ true) e t
 
 -- one router more
-step_none : (qs : List Route) (x : Route) (r : Request) → NoWinner qs r → IsBest (qs ++ x ∷ []) r (better r None x)
+step_none : (qs : List Route) (x : Route) (r : Judged) → NoWinner qs r → IsBest (qs ++ x ∷ []) r (better r None x)
 step_none qs x r never = by (takes x r) refl
   where
     by : (b : Bool) → takes x r ≡ b → IsBest (qs ++ x ∷ []) r (if b then Some x else None)
@@ -72,7 +72,7 @@ step_none qs x r never = by (takes x r) refl
     }
     by false is = λ q has. λ t. elim (Contains-push_cases qs x q has) [ inl h ↦ never q h t | inr e ↦ false≢true (sym is ∙ taken x r q (sym e) t) ]
 
-step_some : (qs : List Route) (x p : Route) (r : Request) → IsWinner qs r p → IsBest (qs ++ x ∷ []) r (better r (Some p) x)
+step_some : (qs : List Route) (x p : Route) (r : Judged) → IsWinner qs r p → IsBest (qs ++ x ∷ []) r (better r (Some p) x)
 step_some qs x p r won = by (takes x r && has_won x p) refl
   where
     by : (b : Bool) → (takes x r && has_won x p) ≡ b → IsBest (qs ++ x ∷ []) r (if b then Some x else Some p)
@@ -94,18 +94,18 @@ step_some qs x p r won = by (takes x r && has_won x p) refl
       ];
     }
 
-step : (qs : List Route) (x : Route) (r : Request) (b : Option Route) → IsBest qs r b → IsBest (qs ++ x ∷ []) r (better r b x)
+step : (qs : List Route) (x : Route) (r : Judged) (b : Option Route) → IsBest qs r b → IsBest (qs ++ x ∷ []) r (better r b x)
 step qs x r None never = step_none qs x r never
 step qs x r (Some p) won = step_some qs x p r won
 
-from : (seen rest : List Route) (r : Request) (b : Option Route) → IsBest seen r b → IsBest (seen ++ rest) r (best_of r b rest)
+from : (seen rest : List Route) (r : Judged) (b : Option Route) → IsBest seen r b → IsBest (seen ++ rest) r (best_of r b rest)
 from seen [] r b h = subst (λ (l : List Route). IsBest l r b) (sym (append-nil seen)) h
 from seen (x ∷ rest) r b h = subst (λ (l : List Route). IsBest l r (best_of r (better r b x) rest)) (append_assoc seen (x ∷ []) rest) (from (seen ++ x ∷ []) rest r (better r b x) (step seen x r b h))
 
-no_router : (r : Request) → NoWinner [] r
+no_router : (r : Judged) → NoWinner [] r
 no_router r = λ q has. λ t. omega (arith, has.1)
 
-pub best_is : (routes : List Route) (r : Request) → IsBest routes r (best_of r None routes)
+pub best_is : (routes : List Route) (r : Judged) → IsBest routes r (best_of r None routes)
 best_is routes r = from [] routes r None (no_router r)
 
 -- the first router with a row

@@ -1,11 +1,17 @@
 -- What a published configuration means to a connection.
 use Rattle.std.specs.Prelude.{ℕ, ◌==◌, false, List, [], ◌∷◌, None, if◌then◌else◌}
 use Rattle.std.specs.Option.{option_map}
-use Rattle.conversation.specs.Plans.{Plan, Target as Aim}
+use Rattle.head_view.specs.Views.{view_lines}
+use Rattle.head_view.specs.declared.views.RequestView.{RequestView}
+use Rattle.conversation.specs.Plans.{Plan, Judged, Target as Aim}
 use Rattle.generation.specs.declared.route.Route.{Route}
 use Rattle.generation.specs.declared.route.Target.{Target}
 use Rattle.generation.specs.declared.generation.Generation.{Generation}
 use Rattle.generation.specs.Winner.{best_of}
+
+-- what a view shows to rules
+abbrev pub judged_by : RequestView → Judged
+judged_by v = record { method = v.method.now; host = v.host.now; path = v.path.now; query = v.query.now; lines = view_lines v }
 
 abbrev pub row_of : Route → ℕ
 row_of q = q.row

@@ -2,10 +2,10 @@
 ghost use Rattle.std.specs.Prelude.{◌≡◌, IfSome, IfOk, MatchOption, Option, List, [], ◌∷◌};
 ghost use Rattle.std.specs.Option.{option_map};
 ghost use Rattle.generation.specs.Winner.{best_of, better as better_of};
-ghost use Rattle.generation.specs.Meaning.{plan_of, row_of, aim_of, target_at, nowhere};
+ghost use Rattle.generation.specs.Meaning.{plan_of, row_of, aim_of, target_at, nowhere, judged_by};
 
 use crate::route::{Route, Target, beats, takes};
-use http_wire::Request;
+use head_view::RequestView;
 use ip_net::Ip;
 use px_base::{List as Items, Memory};
 use std::alloc::Global;
@@ -39,14 +39,14 @@ impl Generation {
         &self,
         _alloc: Global,
         _entry: &[u8],
-        request: &Request,
+        view: &RequestView<'_>,
         _peer: Ip,
     ) -> Result<Option<u32>, Memory>
-        ensures { IfOk result (λ row. row ≡ (plan_of self.now).winner _entry.now request.now _peer) }
+        ensures { IfOk result (λ row. row ≡ (plan_of self.now).winner _entry.now (judged_by view.now) _peer) }
     {
         let mut best = None;
         for route in self.routes.as_slice() {
-            best = better(best, route, request);
+            best = better(best, route, view);
         }
         Ok(best.map(|route| route.row))
     }
@@ -67,19 +67,23 @@ impl Generation {
 }
 
 // The better of the best so far and one more router.
-fn better<'a>(best: Option<&'a Route>, route: &'a Route, request: &Request) -> Option<&'a Route>
-    ensures { option_map (λ r. r.now) result ≡ better_of request.now (option_map (λ r. r.now) best.entry) route.now }
+fn better<'a>(
+    best: Option<&'a Route>,
+    route: &'a Route,
+    view: &RequestView<'_>,
+) -> Option<&'a Route>
+    ensures { option_map (λ r. r.now) result ≡ better_of (judged_by view.now) (option_map (λ r. r.now) best.entry) route.now }
 {
     match best {
         Some(held) => {
-            if takes(route, request) && beats(route, held) {
+            if takes(route, view) && beats(route, held) {
                 Some(route)
             } else {
                 best
             }
         }
         None => {
-            if takes(route, request) {
+            if takes(route, view) {
                 Some(route)
             } else {
                 None

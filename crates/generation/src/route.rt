@@ -1,8 +1,9 @@
 // The routers of a configuration, and when a rule is true of a request.
 ghost use Rattle.std.specs.Prelude.{◌≡◌, ◌↔◌, IsTrue};
 ghost use Rattle.generation.specs.Winner.{takes as takes_request, has_won, truth};
+ghost use Rattle.generation.specs.Meaning.{judged_by};
 
-use http_wire::{Request, host_of_rules};
+use head_view::RequestView;
 use px_base::{Bytes, fold_equal, without_last_dot};
 use rule_lang::{Leaf, Matcher};
 use std::cmp::Ordering;
@@ -45,14 +46,10 @@ fn is_true(rule: &Leaf, host: &[u8], path: &[u8]) -> bool
 }
 
 /// Whether the router's rule is true of the request.
-pub(crate) fn takes(route: &Route, request: &Request) -> bool
-    ensures { result ≡ takes_request route.now request.now }
+pub(crate) fn takes(route: &Route, view: &RequestView<'_>) -> bool
+    ensures { result ≡ takes_request route.now (judged_by view.now) }
 {
-    is_true(
-        &route.rule,
-        host_of_rules(request.host.as_slice()),
-        request.path.as_slice(),
-    )
+    is_true(&route.rule, view.host, view.path)
 }
 
 /// Whether the router wins over the other one: by a greater priority, then by a smaller name.

@@ -1,25 +1,28 @@
 //! Which router a request goes to.
 use crate::{Generation, Route, Target};
-use body_codec::Framing;
-use http_wire::Request;
+use head_view::{EMPTY_HEADER_SPAN, Scan, scan_request, view};
 use ip_net::Ip;
 use px_base::{Bytes, List};
 use rule_lang::{Leaf, Matcher};
 use std::alloc::Global;
-use std::process::Abort;
 use std::test::Fail;
 
-fn request_for(alloc: Global, host: &[u8], path: &[u8]) -> Result<Request, Fail> {
-    Ok(Request {
-        method: Bytes::from_slice(alloc, b"GET")?,
-        host: Bytes::from_slice(alloc, host)?,
-        path: Bytes::from_slice(alloc, path)?,
-        query: None,
-        lines: List::new(alloc),
-        framing: Framing::None,
-        version: 1,
-        keep: true,
-    })
+// The row that wins a request for this host and path.
+fn winner_for(
+    alloc: Global,
+    generation: &Generation,
+    host: &[u8],
+    path: &[u8],
+) -> Result<Option<u32>, Fail> {
+    let head = b"GET / HTTP/1.1\r\n\r\n";
+    let mut room = [EMPTY_HEADER_SPAN; 1];
+    match scan_request(head, &mut room) {
+        Scan::Whole(spans) => {
+            let view = view(head, &room, &spans, host, path, b"");
+            Ok(generation.winner(alloc, b"web", &view, Ip::V4(2_130_706_433))?)
+        }
+        _ => Err(Fail::from("no head")),
+    }
 }
 
 fn route_of(
@@ -50,19 +53,6 @@ fn route_of(
     })
 }
 
-fn expect_row(
-    rt: &impl Abort,
-    alloc: Global,
-    generation: &Generation,
-    request: (&[u8], &[u8]),
-    row: Option<u32>,
-) -> Result<(), Fail> {
-    let request = request_for(alloc, request.0, request.1)?;
-    let won = generation.winner(alloc, b"web", &request, Ip::V4(2_130_706_433))?;
-    assert_eq!(rt; won, row);
-    Ok(())
-}
-
 #[test]
 fn winners(rt: HostRuntime) -> Result<(), Fail> {
     let alloc = rt.alloc();
@@ -72,9 +62,12 @@ fn winners(rt: HostRuntime) -> Result<(), Fail> {
     routes.push(route_of(alloc, 2, b"c@file", Matcher::Host, b"Shop.test.", 18)?)?;
     let generation = Generation::new(7, routes);
     assert_eq!(rt; generation.number(), 7);
-    expect_row(&rt, alloc, &generation, (b"a.test", b"/x"), Some(0))?;
-    expect_row(&rt, alloc, &generation, (b"shop.TEST:8080", b"/x"), Some(2))?;
-    expect_row(&rt, alloc, &generation, (b"a.test", b"x"), None)?;
+    let rows = [
+        winner_for(alloc, &generation, b"a.test", b"/x")?,
+        winner_for(alloc, &generation, b"shop.TEST", b"/x")?,
+        winner_for(alloc, &generation, b"a.test", b"x")?,
+    ];
+    assert_eq!(rt; rows, [Some(0), Some(2), None]);
     let port = generation.target(2).map(|target| target.port);
     assert_eq!(rt; port, Some(9000));
     assert!(rt; generation.target(3).is_none());

@@ -4,6 +4,7 @@ use Rattle.conversation.specs.Plans.{Target}
 use Rattle.generation.specs.Meaning.{plan_of}
 use Rattle.generation.specs.declared.generation.Generation.{Generation}
 use Rattle.conn_machine.specs.Parts.{issue_plan, IsAim}
+use Rattle.conn_machine.proofs.Finds.{found_at}
 use Rattle.conn_machine.proofs.pins.find_route.Goals as goal
 
 pub returns-in_ok-aim_at-in-Some-target : goal.returns-in_ok-aim_at-in-Some-target
@@ -12,7 +13,7 @@ returns-in_ok-aim_at-in-Some-target c = (
   plan_of (arc_value c.in-Some.issue),
   c.in-Request.is,
   ap issue_plan c.in-Some.is,
-  ap (λ (g : Generation). (plan_of g).winner c.args.entry.now c.in-Request.request c.args.peer) (sym c.deref.ensures) ∙ sym c.in_ok-row-in-Some.ensures ∙ c.in-Some-2.is,
+  found_at c.deref.result.now (arc_value c.in-Some.issue) c.args.item.now c.args.entry.now c.args.peer c.in-Request.request _ _ c.deref.ensures c.in-Some-2.is c.in_ok-row-in-Some.ensures,
   subst (λ (t : Target). IsAim c.in_ok-aim_at-in-Some-target.field-0 t)
       (sym (ap (λ (g : Generation). (plan_of g).target c.in-Some-2.row) (sym c.deref-in-Some-2.ensures) ∙ c.in-Some-target.ensures)) c.in_ok-aim_at-in-Some-target.ensures,
 )
@@ -23,5 +24,5 @@ returns-in-None-2 c = (
   plan_of (arc_value c.in-Some.issue),
   c.in-Request.is,
   ap issue_plan c.in-Some.is,
-  ap (λ (g : Generation). (plan_of g).winner c.args.entry.now c.in-Request.request c.args.peer) (sym c.deref.ensures) ∙ sym c.in_ok-row-in-Some.ensures ∙ c.in-None-2.is,
+  found_at c.deref.result.now (arc_value c.in-Some.issue) c.args.item.now c.args.entry.now c.args.peer c.in-Request.request _ _ c.deref.ensures c.in-None-2.is c.in_ok-row-in-Some.ensures,
 )

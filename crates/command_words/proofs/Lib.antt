@@ -1,0 +1,4 @@
+pub mod Chosens
+pub mod Hosts
+pub mod Joins
+pub mod ListenRows

@@ -1,0 +1,5 @@
+pub mod Commands
+pub mod Cuts
+pub mod Names
+pub mod Values
+pub mod Words

@@ -1,0 +1,18 @@
+//! The words that the program is called with, and the commands that they are.
+#![tactic(auto)]
+
+mod command;
+mod cuts;
+mod kind;
+mod listens;
+mod lookup;
+mod numbers;
+mod read;
+mod route;
+mod serve;
+mod sorting;
+#[cfg(test)]
+mod tests;
+
+pub use command::{Command, RoutePlan, WordFault};
+pub use read::read_words;
