@@ -1,5 +1,5 @@
 -- What is done for a connection that waits for it.
-use Rattle.std.proofs.Common.{◌≡◌, ◌≢◌, ℕ, ◌+◌, ◌<◌, ◌≤◌, Bool, true, false, List, [], ◌∷◌, ◌++◌, length, map, Option, Some, None, refl, sym, ◌∙◌, ap, subst, arith, slice_get, append-nil, length-append}
+use Rattle.std.proofs.Common.{◌≡◌, ◌≢◌, ℕ, ◌+◌, ◌<◌, ◌≤◌, Bool, true, false, List, [], ◌∷◌, ◌++◌, length, map, Option, Some, None, refl, sym, ◌∙◌, ap, subst, arith, slice_get, append-nil, length-append, zero, suc, set, inl, inr}
 use Rattle.std.specs.List.{AllByRecursion, Contains, flat_map}
 use Rattle.std.proofs.lemmas.List.Elements.{Contains-push}
 use Rattle.std.proofs.lemmas.List.{map-append}
@@ -27,12 +27,13 @@ use Rattle.system_core.specs.Issues.{IsLast}
 use Rattle.system_core.specs.Records.{Telling, tells, Picked, Records, steps_of, note_of_step, noting, pops, one_server}
 use Rattle.system_core.specs.Views.{plans_of, IsConnOf, owner_of, picked_of}
 use Rattle.system_core.specs.Happens.{Tells, Stops, none, more, IsClientOf, PinsAt, LooksAt, DrawTells, DrawsAt, DialsAt, Does}
-use Rattle.system_core.specs.Drives.{MayFollow, DrivenAt}
+use Rattle.system_core.specs.Drives.{MayFollow, DrivenAt, IsClosedAt, AreClosed}
 use Rattle.system_core.specs.Shows.{Shows, RanAt, Stopping}
 use Rattle.system_core.specs.declared.draws.Pop.{Pop}
 use Rattle.system_core.specs.declared.links.Link.{Link}
 use Rattle.system_core.specs.declared.links.Authority.{Authority}
 use Rattle.system_core.specs.declared.system.System.{System}
+use Rattle.system_core.proofs.Places.{same_or_not, get_set_other}
 use Rattle.system_core.proofs.LinkLemmas.{AllLinks, links_kept, links_dialled}
 use Rattle.system_core.proofs.Telling.{IsPlain, Aside, shows_told, client_apart, client_at, owner_at, links_count}
 
@@ -160,3 +161,19 @@ does_at At old new link i c is own ran r shown =
     (done.0,
      record { place = i; owned = (owner_at r old link is.kept shown is.is_link ∙ ap Some (sym is.is_place), client_at r old i c shown is.is_conn ∙ ap Some (sym own)); does = done.1 },
      done.2)
+
+-- the one server of a balancer is its child 0
+pub child_zero : (n : ℕ) → 0 < weight_of one_server n → n ≡ 0
+child_zero zero h = refl
+child_zero (suc zero) h = absurd (omega (arith, h))
+child_zero (suc (suc n)) h = absurd (omega (arith, h))
+
+-- none of the first is open
+pub closed_more : (conns : List Conn) (n : ℕ) → AreClosed n conns → IsClosedAt n conns → AreClosed (n + 1) conns
+closed_more conns n all one = λ i low. elim (same_or_not i n) as (λ _. IsClosedAt i conns) [
+    inr d ↦ all i (omega (arith, low, d))
+  | inl e ↦ subst (λ (k : ℕ). IsClosedAt k conns) (sym e) one
+  ]
+
+pub closed_set : (conns : List Conn) (n : ℕ) (x : Conn) → AreClosed n conns → AreClosed n (set conns n x)
+closed_set conns n x all = λ i low c at o. all i low c (sym (get_set_other conns n i x (λ e. let f : ⊥ = omega (arith, e, low) in f)) ∙ at) o

@@ -1,5 +1,5 @@
 -- What a system shows before its first event, and once a client came, or a configuration.
-use Rattle.std.proofs.Common.{◌≡◌, ◌≢◌, ℕ, ◌+◌, ◌<◌, ◌≤◌, ◌⊎◌, inl, inr, Bool, true, false, List, [], ◌∷◌, ◌++◌, length, map, Option, Some, None, refl, sym, ◌∙◌, ap, subst, arith, slice_get, append-nil, length-append}
+use Rattle.std.proofs.Common.{◌≡◌, ◌≢◌, ℕ, ◌+◌, ◌<◌, ◌≤◌, ◌⊎◌, inl, inr, Bool, true, false, List, [], ◌∷◌, ◌++◌, length, map, Option, Some, None, refl, sym, ◌∙◌, ap, subst, arith, slice_get, append-nil, length-append, IfSome}
 use Rattle.std.specs.List.{AllByRecursion, Contains}
 use Rattle.std.proofs.lemmas.List.{map-append}
 use Rattle.std.proofs.lemmas.List.Elements.{Contains-append_left}
@@ -164,3 +164,7 @@ ran_came old new link k entry peer aside link_is came_at links owner to_is sent 
           (rw (steps_same (length r.clients) r.told (happened (length r.owners) (came entry peer) ∷ []))
           (pins_more (Contains r.plans) (length r.owners) (steps_of (length r.clients) r.told) (happened (length r.owners) (came entry peer)) [] (shown.pinned (length r.clients)) tt))
       ]
+
+pub waiting_some : (o : Option Plan) (Q : Plan → Type 0) → (o ≡ None → ⊥) → IfSome o Q → (p : Plan) × (o ≡ Some p) × Q p
+waiting_some None Q n h = absurd (n refl)
+waiting_some (Some p) Q n h = (p, refl, h)

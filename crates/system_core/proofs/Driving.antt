@@ -5,25 +5,21 @@ use Rattle.std.specs.declared.alloc.Global.{Global}
 use Rattle.std.specs.Arc.{arc_value}
 use Rattle.link_world.specs.declared.note.Note.{Note}
 use Rattle.link_world.specs.Log.{noted, gave, gave_end, took}
-use Rattle.conversation.specs.Steps.{Step, happened, failed, IsNew}
+use Rattle.conversation.specs.Steps.{Step, happened, failed, stopped, IsNew}
 use Rattle.conversation.specs.Plans.{Plan}
 use Rattle.generation.specs.Meaning.{plan_of}
 use Rattle.conn_machine.specs.declared.conn.Conn.{Conn}
 use Rattle.conn_machine.specs.declared.parts.Aim.{Aim}
 use Rattle.conn_machine.specs.declared.parts.Client.{Client}
 use Rattle.conn_machine.specs.declared.parts.Current.{Current}
-use Rattle.conn_machine.specs.declared.parts.Phase.{Phase}
-use Rattle.conn_machine.specs.declared.parts.Stage.{Stage}
+use Rattle.conn_machine.specs.declared.parts.Phase.TheVariants.{Open, Over}
+use Rattle.link_world.specs.declared.note.EndCause.{EndCause}
 use Rattle.conn_machine.specs.declared.event.ConnEvent.{ConnEvent}
 use Rattle.conn_machine.specs.declared.event.ConnEvent.TheVariants as event
 use Rattle.conn_machine.specs.declared.event.BackEvent.{BackEvent}
-use Rattle.conn_machine.specs.declared.event.BackShape.{BackShape}
-use Rattle.conn_machine.specs.declared.event.BackShape.TheVariants as back
-use Rattle.conn_machine.specs.declared.event.EventShape.{EventShape}
-use Rattle.conn_machine.specs.declared.event.EventShape.TheVariants as shape
-use Rattle.conn_machine.specs.Events.{IsEnabled, IsBackEnabled, IsAsked, IsFresh, step_of, back_step_of, dial_step, number_after}
+use Rattle.conn_machine.specs.Events.{IsAsked, IsFresh, step_of, back_step_of, dial_step, number_after}
 use Rattle.conn_machine.specs.Prompt.{IsPrompt}
-use Rattle.conn_machine.specs.Reached.{Reached, IsDrained, IsOpen, Waits, pending_of, back_pending_of, pending_to}
+use Rattle.conn_machine.specs.Reached.{Reached, IsDrained, IsOpen, pending_of, back_pending_of, pending_to}
 use Rattle.system_core.specs.Records.{noting}
 use Rattle.system_core.specs.Drives.{MayFollow, Noted, Driven, DrivenAt}
 use Rattle.system_core.proofs.Places.{get_at, get_within, same_or_not, get_set_same, get_set_other, get_pushed}
@@ -83,40 +79,6 @@ fresh_by (event.Dialled link) c steps h = fresh_dial link c.current.aim steps h
 fresh_by (event.Back link e) c steps h = tt
 fresh_by (event.Took n) c steps h = tt
 fresh_by event.Stop c steps h = tt
-
--- what is read of a machine to tell whether an event may come
-pub record SameState (c b : Conn) : Type 0 where
-  pub client : b.client ≡ c.client
-  pub current : b.current ≡ c.current
-  pub phase : b.phase ≡ c.phase
-  pub stage : b.stage ≡ c.stage
-  pub input : vec_len b.input ≡ vec_len c.input
-  pub over : b.over ≡ c.over
-  pub pending : pending_of b ≡ pending_of c
-
-open_same : (c b : Conn) → SameState c b → IsOpen c → IsOpen b
-open_same c b s h = s.phase ∙ h
-
-waits_same : (at : Stage) (c b : Conn) → SameState c b → Waits at c → Waits at b
-waits_same at c b s h = record { phase = s.phase ∙ h.phase; stage = s.stage ∙ h.stage }
-
-back_same : (e : BackShape) (c b : Conn) → SameState c b → IsBackEnabled e c → IsBackEnabled e b
-back_same (back.Bytes n) c b s h = h
-back_same back.End c b s h = tt
-back_same back.Failed c b s h = tt
-back_same (back.Took n) c b s h = (h.0, subst (λ (x : Current). n ≤ length (pending_to x.back)) (sym s.current) h.1)
-
-pub enabled_same : (e : EventShape) (c b : Conn) → SameState c b → IsEnabled e c → IsEnabled e b
-enabled_same (shape.Bytes n) c b s h = (open_same c b s h.0, s.over ∙ h.1, h.2, subst (λ (x : ℕ). x + n ≤ 32768) (sym s.input) h.3)
-enabled_same shape.End c b s h = (open_same c b s h.0, s.over ∙ h.1)
-enabled_same shape.Failed c b s h = open_same c b s h
-enabled_same shape.Pinned c b s h = waits_same _ c b s h
-enabled_same shape.Looked c b s h = waits_same _ c b s h
-enabled_same shape.Drew c b s h = waits_same _ c b s h
-enabled_same shape.Dialled c b s h = waits_same _ c b s h
-enabled_same (shape.Back link e) c b s h = (waits_same _ c b s h.0, h.1 ∙ ap (λ (x : Current). x.link) (sym s.current), back_same e c b s h.2)
-enabled_same (shape.Took n) c b s h = (open_same c b s h.0, h.1, subst (λ (t : List ℕ). n ≤ length t) (sym s.pending) h.2)
-enabled_same shape.Stop c b s h = open_same c b s h
 
 pub asked_same : (e : ConnEvent) (c b : Conn) → b.current ≡ c.current → IsAsked e c → IsAsked e b
 asked_same (event.Bytes piece) c b m h = tt
@@ -188,5 +150,31 @@ none_above_pushed conns n x below all = λ j d g. elim (get_pushed conns j x d g
 pub none_above_more : (conns : List Conn) (n m : ℕ) → n ≤ m → NoneAbove conns n → NoneAbove conns m
 none_above_more conns n m up all = λ j d g. let h : d.current.number ≤ n = all j d g in omega arith
 
-pub same_len : {X A : Type 0} (v w : Vec X A) → v.items ≡ w.items → vec_len v ≡ vec_len w
-same_len v w e = omega (arith, v.ok, w.ok, ap length e)
+-- an ended machine waits for nothing
+pub prompt_over : (c : Conn) (cause : EndCause) → c.phase ≡ Over cause → IsPrompt c
+prompt_over c cause is = record {
+  goes_on = λ w. absurd (let e : Over cause ≡ Open = sym is ∙ w.phase in let f : ⊥ = cc in f);
+  part = λ w. absurd (let e : Over cause ≡ Open = sym is ∙ w.phase in let f : ⊥ = cc in f);
+  exchange = λ w. absurd (let e : Over cause ≡ Open = sym is ∙ w.phase in let f : ⊥ = cc in f);
+  reply = λ w. absurd (let e : Over cause ≡ Open = sym is ∙ w.phase in let f : ⊥ = cc in f);
+}
+
+-- a machine that was told of the stop, and then tells its notes
+pub halted_by : (c d x : Conn) (old new : List Note) (cause : EndCause) → d.client ≡ c.client → d.phase ≡ Over cause → ((steps : List Step) → Reached steps c → Reached (steps ++ stopped ∷ []) d)
+    → Noted d x old new → IsDrained x → Driven stopped c x old new
+halted_by c d x old new cause client over reached_d n drained = record {
+  client = n.client ∙ client;
+  prompt = λ p. n.prompt (prompt_over d cause over);
+  notes = n.notes;
+  kept = n.kept;
+  drained = drained;
+  reached = λ steps follows r. subst (λ (xs : List Step). Reached xs x) (same steps) (n.reached (steps ++ stopped ∷ []) (reached_d steps r));
+}
+  where
+    same : (steps : List Step) → (steps ++ stopped ∷ []) ++ map (noting d.client.link) n.notes ≡ steps ++ stopped ∷ map (noting c.client.link) n.notes
+    same steps =
+        append_assoc steps (stopped ∷ []) (map (noting d.client.link) n.notes)
+        ∙ ap (λ (k : Client). steps ++ stopped ∷ map (noting k.link) n.notes) client
+
+pub over_closed : (c : Conn) (cause : EndCause) → c.phase ≡ Over cause → IsOpen c → ⊥
+over_closed c cause is open_ = let e : Over cause ≡ Open = sym is ∙ open_ in cc

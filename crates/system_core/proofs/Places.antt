@@ -1,5 +1,5 @@
 -- Lists by their places.
-use Rattle.std.proofs.Common.{◌≡◌, ◌≢◌, ℕ, zero, suc, ◌+◌, ◌<◌, ◌≤◌, ◌⊎◌, inl, inr, List, [], ◌∷◌, ◌++◌, length, map, get_or, set, Option, Some, None, refl, sym, ◌∙◌, ap, arith, slice_get}
+use Rattle.std.proofs.Common.{◌≡◌, ◌≢◌, ℕ, zero, suc, ◌+◌, ◌<◌, ◌≤◌, ◌⊎◌, inl, inr, List, [], ◌∷◌, ◌++◌, length, map, get_or, set, Option, Some, None, true, false, IsTrue, refl, sym, ◌∙◌, ap, arith, slice_get}
 
 pub same_or_not : (j i : ℕ) → (j ≡ i) ⊎ (j ≢ i)
 same_or_not zero zero = inl refl
@@ -67,3 +67,6 @@ pub length_set : {X : Type 0} (xs : List X) (i : ℕ) (x : X) → length (set xs
 length_set [] i x = refl
 length_set (z ∷ xs) zero x = refl
 length_set (z ∷ xs) (suc i) x = ap suc (length_set xs i x)
+
+pub not_true : IsTrue false → ⊥
+not_true h = cc

@@ -9,7 +9,7 @@ use Rattle.conversation.proofs.Tellings.{other_link}
 use Rattle.conn_machine.specs.declared.conn.Conn.{Conn}
 use Rattle.conn_machine.specs.declared.event.BackEvent.{BackEvent}
 use Rattle.conn_machine.specs.declared.event.BackEvent.TheVariants as back
-use Rattle.conn_machine.specs.Events.{IsEnabled, back_shape_of, step_of}
+use Rattle.conn_machine.specs.Events.{IsEnabled, IsAsked, back_shape_of, shape_of, step_of}
 use Rattle.conn_machine.specs.Reached.{pending_of, back_pending_of}
 use Rattle.system_core.specs.Records.{Telling, tells, Records, steps_of, note_of_step, noting}
 use Rattle.system_core.specs.Views.{IsConnOf, owner_of, picked_of}
@@ -121,3 +121,15 @@ ran_on old new i link c e is may aside pops t d = λ r shown.
         (links_took link i c.client.link (taken_now (pending_on (link == c.client.link) c) e) old.links.items new.links.items r.told step d.driven.notes
             (takes_step c link e (link == c.client.link) refl) t owned shown.links) in
     (told.0, record { place = i; owned = owner_at r old link is.kept shown is.is_link ∙ ap Some (sym is.is_place); step = step; says = says; does = told.1 }, told.2)
+
+-- what may happen on a link may be told
+pub told_enabled : (c : Conn) (link : ℕ) (e : BackEvent) (b : Bool) → IsEnabled (shape_on b link (back_shape_of e)) c
+    → IsEnabled (shape_of (told_on b link e)) c × IsAsked (told_on b link e) c
+told_enabled c link (back.Bytes piece) true may = (may, tt)
+told_enabled c link back.End true may = (may, tt)
+told_enabled c link back.Failed true may = (may, tt)
+told_enabled c link (back.Took n) true may = (may, tt)
+told_enabled c link (back.Bytes piece) false may = (may, tt)
+told_enabled c link back.End false may = (may, tt)
+told_enabled c link back.Failed false may = (may, tt)
+told_enabled c link (back.Took n) false may = (may, tt)

@@ -1,12 +1,12 @@
 -- What driving one connection does.
-use Rattle.std.specs.Prelude.{◌≡◌, ℕ, List, [], ◌∷◌, ◌++◌, map, Option, Some, slice_get, slice_set}
+use Rattle.std.specs.Prelude.{◌≡◌, ◌<◌, ℕ, List, [], ◌∷◌, ◌++◌, map, Option, Some, slice_get, slice_set}
 use Rattle.ip_net.specs.declared.ip.Ip.{Ip}
 use Rattle.link_world.specs.declared.note.Note.{Note}
 use Rattle.link_world.specs.Log.{LinkEvent, came, dialled, gave, gave_end, took, noted}
 use Rattle.conversation.specs.Steps.{Step, happened, failed, pinned, looked, drew, spent, ticked, stopped, IsNew}
 use Rattle.conn_machine.specs.declared.conn.Conn.{Conn}
 use Rattle.conn_machine.specs.Prompt.{IsPrompt}
-use Rattle.conn_machine.specs.Reached.{Reached, IsDrained}
+use Rattle.conn_machine.specs.Reached.{Reached, IsDrained, IsOpen}
 use Rattle.system_core.specs.Records.{noting}
 
 -- a link is dialled once
@@ -61,3 +61,11 @@ pub record CameAt (link : ℕ) (entry : List ℕ) (peer : Ip) (conns new_conns :
   pub prompt : IsPrompt conn
   pub drained : IsDrained conn
   pub reached : Reached (happened link (came entry peer) ∷ []) conn
+
+-- the connection at a place isn't open
+abbrev pub IsClosedAt : ℕ → List Conn → Type 0
+IsClosedAt i conns = (c : Conn) → slice_get conns i ≡ Some c → ¬ (IsOpen c)
+
+-- none of the first is open
+abbrev pub AreClosed : ℕ → List Conn → Type 0
+AreClosed n conns = (i : ℕ) → i < n → IsClosedAt i conns

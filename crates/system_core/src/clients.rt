@@ -1,14 +1,15 @@
 // The connections, and the configurations that they are pinned to.
 ghost use Rattle.std.specs.Prelude.{◌≡◌, ◌≤◌, ◌++◌, ◌∷◌, [], ℕ, Some, None, OnOk, IfSome, length, slice_get};
-ghost use Rattle.conversation.specs.Steps.{pinned as pinned_to};
+ghost use Rattle.conversation.specs.Steps.{pinned as pinned_to, stopped as told_stop};
 ghost use Rattle.conversation.specs.Plans.{Plan};
 ghost use Rattle.conn_machine.specs.declared.conn.Conn.{Conn as ConnOf};
 ghost use Rattle.conn_machine.specs.Events.{IsEnabled, IsAsked, shape_of, step_of, number_after};
 ghost use Rattle.conn_machine.specs.Parts.{issue_plan};
+ghost use Rattle.conn_machine.specs.Reached.{IsOpen};
 ghost use Rattle.system_core.specs.Issues.{plan_at, plans_in, IsLast};
-ghost use Rattle.system_core.specs.Drives.{DrivenAt, CameAt};
+ghost use Rattle.system_core.specs.Drives.{DrivenAt, CameAt, IsClosedAt};
 
-use crate::drive::drive;
+use crate::drive::{drive, halt};
 use crate::timeline::Timeline;
 use conn_machine::{Conn, ConnEvent, EventShape};
 use generation::Generation;
@@ -91,6 +92,23 @@ impl Clients {
             → DrivenAt place c (step_of c event.entry) self.old.conns.items self.new.conns.items notes.old.items notes.new.items) }
     {
         drive(alloc, &mut self.conns[place], event, notes)?;
+        Ok(())
+    }
+
+    /// The connection at this place, which is open, is told that a stop was asked for.
+    pub(crate) fn halt(
+        &mut self,
+        alloc: Global,
+        place: usize,
+        notes: &mut Vec<Note>,
+    ) -> Result<(), Memory>
+        requires { (c : ConnOf) × (slice_get self.old.conns.items place ≡ Some c) × IsOpen c }
+        ensures timeline { self.new.timeline ≡ self.old.timeline }
+        ensures driven { OnOk result ((c : ConnOf) → slice_get self.old.conns.items place ≡ Some c
+            → DrivenAt place c told_stop self.old.conns.items self.new.conns.items notes.old.items notes.new.items) }
+        ensures closed { OnOk result (IsClosedAt place self.new.conns.items) }
+    {
+        halt(alloc, &mut self.conns[place], notes)?;
         Ok(())
     }
 

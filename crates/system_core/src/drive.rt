@@ -1,7 +1,8 @@
 // One event of one connection, and the notes that follow it.
 ghost use Rattle.std.specs.Prelude.{◌≡◌, ◌≤◌, ℕ, OnOk};
+ghost use Rattle.conversation.specs.Steps.{stopped as told_stop};
 ghost use Rattle.conn_machine.specs.Events.{IsEnabled, IsAsked, bytes_of, shape_of, step_of, number_after};
-ghost use Rattle.conn_machine.specs.Reached.{IsDrained};
+ghost use Rattle.conn_machine.specs.Reached.{IsDrained, IsOpen};
 ghost use Rattle.system_core.specs.Drives.{Noted, Driven};
 
 use conn_machine::{Conn, ConnEvent};
@@ -28,6 +29,18 @@ pub(crate) fn drive(
     Ok(())
 }
 
+/// Tells an open connection that a stop was asked for, and keeps the notes that it then has.
+pub(crate) fn halt(alloc: Global, conn: &mut Conn, notes: &mut Vec<Note>) -> Result<(), Memory>
+    requires { IsOpen conn.old }
+    ensures driven { OnOk result (Driven told_stop conn.old conn.new notes.old.items notes.new.items) }
+    ensures closed { ¬ (IsOpen conn.new) }
+    ensures number { conn.new.current.number ≡ conn.old.current.number }
+{
+    conn.stop();
+    tell_notes(alloc, conn, notes)?;
+    Ok(())
+}
+
 // How many bytes the event adds to the client's buffer.
 fn bytes_of_event(event: &ConnEvent<'_>) -> usize
     ensures { result ≡ bytes_of event.now }
@@ -43,6 +56,7 @@ fn tell_notes(alloc: Global, conn: &mut Conn, notes: &mut Vec<Note>) -> Result<(
     ensures noted { OnOk result (Noted conn.old conn.new notes.old.items notes.new.items) }
     ensures drained { OnOk result (IsDrained conn.new) }
     ensures number { conn.new.current.number ≡ conn.old.current.number }
+    ensures opens { IsOpen conn.new → IsOpen conn.old }
 {
     while let Some(note) = conn.take_note(alloc) {
         notes.push(note)?;

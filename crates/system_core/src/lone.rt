@@ -1,7 +1,8 @@
 // Events of no connection.
-ghost use Rattle.std.specs.Prelude.{◌≡◌, ◌<◌, None, IfOk, OnOk, false, length, slice_get, Some, ℕ, ◌≤◌};
+ghost use Rattle.std.specs.Prelude.{◌≡◌, ◌<◌, ◌+◌, None, IfOk, OnOk, false, length};
 ghost use Rattle.system_core.specs.Issues.{plan_at};
 ghost use Rattle.system_core.specs.Views.{plans_of, waiting_of};
+ghost use Rattle.system_core.specs.Drives.{AreClosed};
 ghost use Rattle.system_core.specs.Answers.{LoneAnswers, HasWaiting};
 ghost use Rattle.system_core.specs.Shows.{Ran, RanCame, Stopping};
 ghost use Rattle.system_core.specs.declared.event.Event.TheVariants as event;
@@ -9,7 +10,7 @@ ghost use Rattle.system_core.specs.declared.event.Event.TheVariants as event;
 use crate::event::{Kind, Refused};
 use crate::links::Link;
 use crate::system::System;
-use conn_machine::{ConnEvent, EventKind, StateName};
+use conn_machine::{EventKind, StateName};
 use generation::Generation;
 use ip_net::Ip;
 use px_base::{Bytes, Memory};
@@ -79,6 +80,7 @@ impl System {
     pub(crate) fn stop(&mut self, alloc: Global) -> Result<(), Refused>
         ensures answers { LoneAnswers self.old (self.old.stopped ≡ false) (Kind.Conn EventKind.Stop) result self.new }
         ensures ran { OnOk result (Ran event.Stop self.old self.new) }
+        ensures closed { OnOk result (AreClosed (length self.new.clients.conns.items) self.new.clients.conns.items) }
     {
         if self.stopped {
             return Err(idle(Kind::Conn(EventKind::Stop)));
@@ -90,7 +92,8 @@ impl System {
 
     // Each connection that is open is told that a stop was asked for.
     fn stop_all(&mut self, alloc: Global) -> Result<(), Memory>
-        ensures { OnOk result (Stopping self.old self.new) }
+        ensures stopping { OnOk result (Stopping self.old self.new) }
+        ensures closed { OnOk result (AreClosed (length self.new.clients.conns.items) self.new.clients.conns.items) }
     {
         let count = self.clients.conns.len();
         for place in 0..count {
@@ -103,12 +106,12 @@ impl System {
         requires { place < length self.old.clients.conns.items }
         ensures same { OnOk result (length self.new.clients.conns.items ≡ length self.old.clients.conns.items) }
         ensures stopping { OnOk result (Stopping self.old self.new) }
+        ensures closed { OnOk result (AreClosed place self.old.clients.conns.items → AreClosed (place + 1) self.new.clients.conns.items) }
     {
         if !self.clients.conns[place].is_open() {
             return Ok(());
         }
-        self.clients
-            .drive(alloc, place, ConnEvent::Stop, &mut self.notes)?;
+        self.clients.halt(alloc, place, &mut self.notes)?;
         Ok(())
     }
 }

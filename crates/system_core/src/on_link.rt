@@ -82,12 +82,15 @@ impl System {
             ((i : ℕ) (c : ConnOf) → ¬ (IsConnOf self.now link i c))
             (λ i. (c : ConnOf) × IsConnOf self.now link i c) }
     {
-        let place = self.links.get(link as usize)?.owner;
-        if place < self.clients.conns.len() {
-            Some(place)
-        } else {
-            None
+        let at = link as usize;
+        if at >= self.links.len() {
+            return None;
         }
+        let place = self.links[at].owner;
+        if place >= self.clients.conns.len() {
+            return None;
+        }
+        Some(place)
     }
 
     // The connection of the link is told what may happen on it.

@@ -3,6 +3,7 @@ ghost use Rattle.std.specs.Prelude.{◌≡◌, ◌++◌, ◌∷◌, [], List, If
 ghost use Rattle.conversation.specs.Plans.{Plan};
 ghost use Rattle.system_core.specs.Issues.{plan_at};
 ghost use Rattle.system_core.specs.Views.{plans_of};
+ghost use Rattle.system_core.specs.Drives.{AreClosed};
 ghost use Rattle.system_core.specs.Answers.{Answers, IsNext};
 ghost use Rattle.system_core.specs.Shows.{Lawful, Ran};
 ghost use Rattle.system_core.specs.declared.event.Event.{Event as EventOf};
@@ -75,6 +76,8 @@ impl System {
         // Whatever events led here, with this one the records are lawful.
         ensures lawful { OnOk result ((first : Plan) (events : List EventOf) → Lawful first events self.old
             → Lawful first (events ++ event ∷ []) self.new) }
+        // Once a stop was asked for, no connection goes on.
+        ensures closed { event ≡ EventOf.Stop → OnOk result (AreClosed (length self.new.clients.conns.items) self.new.clients.conns.items) }
     {
         self.dispatch(alloc, event)
     }
@@ -83,6 +86,7 @@ impl System {
         requires next { IsNext event (length (plans_of self.old.clients.timeline)) }
         ensures answers { Answers self.old event result self.new }
         ensures ran { OnOk result (Ran event self.old self.new) }
+        ensures closed { event ≡ EventOf.Stop → OnOk result (AreClosed (length self.new.clients.conns.items) self.new.clients.conns.items) }
     {
         match event {
             Event::Config { issue } => self.config(issue),

@@ -1,16 +1,11 @@
 use Rattle.std.proofs.Common.{◌≡◌, ◌≤◌, ℕ, ap, ◌∙◌, sym, subst, length, arith}
 use Rattle.conn_machine.specs.declared.parts.Current.{Current}
 use Rattle.conn_machine.specs.Events.{shape_of, number_after}
-use Rattle.system_core.proofs.Driving.{SameState, enabled_same, asked_same, driven_by, same_len, after_within}
+use Rattle.system_core.proofs.Driving.{asked_same, driven_by, after_within}
 use Rattle.system_core.proofs.drive.drive.Goals as goal
 
 pub step-requires-clause-enabled : goal.step-requires-clause-enabled
-step-requires-clause-enabled c =
-    let s : SameState c.args.conn.now c.reserve.new.self = record {
-      client = c.reserve.ensures.client; current = c.reserve.ensures.current; phase = c.reserve.ensures.phase; stage = c.reserve.ensures.stage;
-      input = same_len c.reserve.new.self.input c.args.conn.now.input c.reserve.ensures.input; over = c.reserve.ensures.over; pending = c.reserve.ensures.pending;
-    } in
-    enabled_same (shape_of c.args.event) c.args.conn.now c.reserve.new.self s c.requires.enabled
+step-requires-clause-enabled c = c.reserve.ensures.enabled (shape_of c.args.event) c.requires.enabled
 
 pub step-requires-clause-asked : goal.step-requires-clause-asked
 step-requires-clause-asked c = asked_same c.args.event c.args.conn.now c.reserve.new.self c.reserve.ensures.current c.requires.asked

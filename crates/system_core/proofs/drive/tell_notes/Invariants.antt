@@ -1,11 +1,12 @@
 use Rattle.std.proofs.Common.{◌≡◌}
-use Rattle.conn_machine.specs.Reached.{notes_left}
+use Rattle.conn_machine.specs.Reached.{notes_left, IsOpen}
 use Rattle.system_core.specs.Drives.{Noted}
 use Rattle.system_core.proofs.drive.tell_notes.Given as goal
 
 abbrev pub invariant-loop-note : goal.invariant-loop-note
 invariant-loop-note l = record {
   number : l.conn.current.number ≡ l.initial.conn.current.number;
+  opens : IsOpen l.conn → IsOpen l.initial.conn;
   told : Noted l.initial.conn l.conn l.initial.notes.items l.notes.items;
 }
 
