@@ -10,7 +10,20 @@ use Rattle.conn_machine.specs.declared.conn.Conn.{Conn}
 use Rattle.conn_machine.specs.declared.parts.Phase.{Phase}
 use Rattle.conn_machine.specs.declared.parts.Phase.TheVariants.{Open, Broken, Over, Told}
 use Rattle.conn_machine.specs.Reached.{Reached, PhaseHolds, IsFinished, IsTold, closed_by, ending_note}
-use Rattle.std.proofs.Common.{subst, refl}
+use Rattle.std.proofs.Common.{subst, refl, OnOk, Result, Ok, Err}
+use Rattle.system_core.specs.Happens.{next}
+use Rattle.system_core.specs.Shows.{Lawful, Ran}
+use Rattle.system_core.specs.declared.event.Event.{Event}
+use Rattle.system_core.specs.declared.event.Refused.{Refused}
+use Rattle.system_core.specs.declared.system.System.{System}
+
+-- what an event does to the records keeps a system lawful
+pub lawful_by : (r : Result (Unit {0}) Refused) (e : Event) (old new : System) → OnOk r (Ran e old new)
+    → OnOk r ((first : Plan) (events : List Event) → Lawful first events old → Lawful first (events ++ e ∷ []) new)
+lawful_by (Ok done) e old new ran = λ first events l.
+    let s = ran l.records l.shows in
+    record { records = s.0; runs = next events l.records e s.0 l.runs s.1; shows = s.2 }
+lawful_by (Err f) e old new ran = tt
 
 pub served_conn : (steps : List Step) (plans : List Plan) (c : Conn) → Reached steps c → IsFinished c → AllByRecursion (Contains plans) (pins steps)
     → Served plans c.client.link c.client.entry c.client.peer steps (failures c.client.link steps ≢ []) (stops steps ≢ [])
