@@ -1,6 +1,5 @@
 -- Why a text is no address with a port.
-use Rattle.std.proofs.Common.{◌≡◌, ℕ, ◌==◌, true, Bool, List, Some, sym, subst}
-use Rattle.std.specs.List.{list_any}
+use Rattle.std.proofs.Common.{◌≡◌, ℕ, List, Some}
 use Rattle.ip_net.specs.declared.ip.Ip.{Ip}
 use Rattle.ip_net.specs.Texts.{Writes}
 use Rattle.command_words.specs.Cuts.{Cut, cut_at}

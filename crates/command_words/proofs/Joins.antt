@@ -2,7 +2,7 @@
 use Rattle.std.proofs.Common.{◌≡◌, ℕ, List, [], ◌∷◌, ◌++◌, Option, Some, None, true, refl, sym, ap, ◌∙◌, append_assoc, append-nil}
 use Rattle.command_words.specs.declared.sorting.Setting.{Setting}
 use Rattle.command_words.specs.declared.sorting.Sorted.{Sorted}
-use Rattle.command_words.specs.Words.{WordKind, ends, named, valued, refused, other, kind_of, nothing, sorted, sorted_by, sorted_behind, and_setting, and_other, is_value, joined}
+use Rattle.command_words.specs.Words.{WordKind, valued, other, kind_of, nothing, sorted, sorted_by, sorted_behind, and_setting, and_other, is_value, joined}
 
 -- the words are sorted by the kind of the first
 pub sorted_step : (word : List ℕ) (words : List (List ℕ)) → sorted (word ∷ words) ≡ sorted_by (kind_of word) word words (sorted words) (λ name. sorted_behind name words)

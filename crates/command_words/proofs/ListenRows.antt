@@ -1,12 +1,12 @@
 -- The listens of words, one by one.
-use Rattle.std.proofs.Common.{◌≡◌, ◌∙◌, ℕ, zero, suc, ◌<◌, ◌+◌, ◌++◌, List, [], ◌∷◌, length, get_or, take, map, refl, sym, ap, subst, arith, true, false, Bool, Option, Some, None, IsSomeAnd, add-one}
+use Rattle.std.proofs.Common.{◌≡◌, ◌∙◌, ℕ, zero, suc, ◌<◌, ◌+◌, ◌++◌, List, [], ◌∷◌, length, get_or, take, map, refl, sym, ap, subst, arith, true, false, Option, Some, None, IsSomeAnd}
 use Rattle.std.proofs.lemmas.List.{take_more}
 use Rattle.std.proofs.lemmas.Bool.{false≢true}
 use Rattle.ip_net.specs.declared.ip.Ip.{Ip}
 use Rattle.link_world.specs.declared.plan.Listen.{Listen}
 use Rattle.command_words.specs.Cuts.{Cut, cut_at}
 use Rattle.command_words.specs.Values.{IsAddress}
-use Rattle.command_words.specs.Commands.{IsEntry, IsListenAt, IsListen, AreListens, entry_of, are_apart}
+use Rattle.command_words.specs.Commands.{IsEntry, IsListen, AreListens, entry_of, are_apart}
 
 -- one more word and its listen
 pub listens_more : (words : List (List ℕ)) (listens : List Listen) (word : List ℕ) (listen : Listen) → AreListens words listens → IsListen word listen → AreListens (words ++ word ∷ []) (listens ++ listen ∷ [])

@@ -1,5 +1,5 @@
 -- The commands, and the words that they are.
-use Rattle.std.specs.Prelude.{◌≡◌, ◌≢◌, ℕ, ◌≤◌, ◌⊎◌, Bool, true, false, not, ◌&&◌, ◌||◌, List, [], ◌∷◌, length, map, All, codes, Option, Some, None, IsSomeAnd, bytes_eq}
+use Rattle.std.specs.Prelude.{◌≡◌, ◌≢◌, ℕ, ◌≤◌, Bool, true, false, not, ◌&&◌, ◌||◌, List, [], ◌∷◌, length, map, All, codes, Option, Some, None, IsSomeAnd, bytes_eq}
 use Rattle.ip_net.specs.declared.ip.Ip.{Ip}
 use Rattle.ip_net.specs.declared.ip.Ip.TheVariants.{V4}
 use Rattle.ip_net.specs.Texts.{Writes}

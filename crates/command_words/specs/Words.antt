@@ -1,10 +1,9 @@
 -- How the words behind a command's name are sorted into options and other words. An option is `--name value` or
 -- `--name=value`, whose value isn't empty and, as a word of its own, doesn't begin with a dash. `--` ends the options;
 -- before it, each other word that begins with a dash is refused.
-use Rattle.std.specs.Prelude.{◌≡◌, ℕ, ◌==◌, Bool, true, false, not, if◌then◌else◌, List, [], ◌∷◌, ◌++◌, Option, Some, None}
+use Rattle.std.specs.Prelude.{ℕ, ◌==◌, Bool, false, not, if◌then◌else◌, List, [], ◌∷◌, ◌++◌, Option, Some, None}
 use Rattle.command_words.specs.declared.kind.Kind.{Kind}
 use Rattle.command_words.specs.declared.kind.Kind.TheVariants as kind
-use Rattle.command_words.specs.declared.sorting.Setting.{Setting}
 use Rattle.command_words.specs.declared.sorting.Sorted.{Sorted}
 use Rattle.command_words.specs.Cuts.{Cut, cut_at}
 

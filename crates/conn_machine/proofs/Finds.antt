@@ -24,8 +24,9 @@ use Rattle.http_wire.specs.declared.requests.RequestRefused.TheVariants as refus
 use Rattle.link_world.specs.declared.note.Cause.TheVariants as causes
 use Rattle.link_world.specs.declared.note.HeadName.TheVariants as name
 use Rattle.conversation.specs.Asks.{asks, faulty, unserved, broken, large, IsHead, IsServed, IsItem, Makes, fields_of, name_of, judged, query_bytes}
-use Rattle.conversation.specs.Plans.{Judged}
-use Rattle.generation.specs.Meaning.{plan_of, judged_by}
+use Rattle.conversation.specs.Plans.{IsWinner}
+use Rattle.rule_eval.specs.Truth.{Asked, asked_of}
+use Rattle.generation.specs.Meaning.{plan_of}
 use Rattle.generation.specs.declared.generation.Generation.{Generation}
 use Rattle.conn_machine.specs.Parts.{Fits, IsFound, FindsRow}
 use Rattle.conn_machine.specs.declared.parts.Asked.{Asked}
@@ -116,7 +117,7 @@ found_large buf peer n all none short why =
 pub judged_as : (item : List ℕ) (room : List HeaderSpan) (s : HeadSpans) (r : HttpRequest) (v : RequestView) → FindsHead 100 item room (Whole s)
     → ((h : RequestHead) → IsHeadAt item room s h → (v.method.now ≡ h.method) × (view_lines v ≡ map name_and_value h.fields))
     → v.host.now ≡ host_of_rules r.host → v.path.now ≡ r.path → v.query.now ≡ query_bytes r.query
-    → (h : RequestHead) → IsHead item h → judged h r ≡ judged_by v
+    → (h : RequestHead) → IsHead item h → judged h r ≡ asked_of v
 judged_as item room s r v finds shows host path query h head =
     let at : IsHeadAt item room s h = finds h [] head.reads head.few in
     let shown : (v.method.now ≡ h.method) × (view_lines v ≡ map name_and_value h.fields) = shows h at in
@@ -124,13 +125,14 @@ judged_as item room s r v finds shows host path query h head =
 
 -- so the row that is found by the view is the one by whatever head the bytes are
 pub found_row : (g : Generation) (item entry : List ℕ) (peer : Ip) (r : HttpRequest) (v : RequestView) (row : Result (Option ℕ) AllocError)
-    → ((h : RequestHead) → IsHead item h → judged h r ≡ judged_by v)
-    → IfOk row (λ (o : Option ℕ). o ≡ (plan_of g).winner entry (judged_by v) peer)
+    → ((h : RequestHead) → IsHead item h → judged h r ≡ asked_of v)
+    → IfOk row (IsWinner (plan_of g) entry (asked_of v) peer)
     → IfOk row (FindsRow (plan_of g) item entry peer r)
-found_row g item entry peer r v (Ok row) same is = λ h head. ap (λ (j : Judged). (plan_of g).winner entry j peer) (same h head) ∙ sym is
+found_row g item entry peer r v (Ok row) same is = λ h head. subst (λ (a : Asked). IsWinner (plan_of g) entry a peer row) (sym (same h head)) is
 found_row g item entry peer r v (Err e) same is = tt
 
 -- the same at equal parts
 pub found_at : (g g' : Generation) (item entry : List ℕ) (peer : Ip) (r : HttpRequest) (won won' : Option ℕ) → g ≡ g' → won ≡ won'
     → FindsRow (plan_of g) item entry peer r won → FindsRow (plan_of g') item entry peer r won'
-found_at g g' item entry peer r won won' same is f = λ h head. ap (λ (x : Generation). (plan_of x).winner entry (judged h r) peer) (sym same) ∙ f h head ∙ is
+found_at g g' item entry peer r won won' same is f = λ h head.
+    subst (λ (o : Option ℕ). IsWinner (plan_of g') entry (judged h r) peer o) is (subst (λ (x : Generation). IsWinner (plan_of x) entry (judged h r) peer won) same (f h head))

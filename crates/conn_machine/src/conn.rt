@@ -5,7 +5,7 @@ ghost use Rattle.conversation.specs.Steps.{Step, happened, failed, stopped};
 ghost use Rattle.conn_machine.specs.Events.{IsEnabled};
 ghost use Rattle.conn_machine.specs.declared.event.EventShape.{EventShape};
 ghost use Rattle.conn_machine.specs.Prompt.{IsPrompt};
-ghost use Rattle.conn_machine.specs.Reached.{Reached, IsOpen, Waits, KeepsServer, HasRoom, IsEnding, IsGoing, trail_of, pending_of, IsDrained};
+ghost use Rattle.conn_machine.specs.Reached.{Reached, IsOpen, Waits, KeepsServer, HasRoom, IsEnding, IsGoing, IsDrained, trail_of, pending_of};
 
 use crate::heads::{Found, read_head};
 use crate::parts::{Asked, Client, Current, Phase, Stage};

@@ -1,10 +1,8 @@
 //! Connections, as lists of events.
 use crate::{BackEvent, Conn, ConnEvent};
-use generation::{Generation, Route, Target};
+use generation::{Generation, one_router};
 use ip_net::Ip;
 use link_world::{Look, NodePick, note_text};
-use px_base::{Bytes, List};
-use rule_lang::{Leaf, Matcher};
 use std::alloc::Global;
 use std::process::Abort;
 use std::sync::Arc;
@@ -33,30 +31,15 @@ enum Act {
 
 // A configuration without routers.
 fn empty(alloc: Global) -> Result<Arc<Generation, Global>, Fail> {
-    Ok(Arc::new(alloc, Generation::new(1, List::new(alloc)))?)
+    Ok(Arc::new(alloc, Generation::empty(alloc, 1)?)?)
 }
 
 // A configuration with one router, which takes every path and leads to one server.
 fn configuration(alloc: Global) -> Result<Arc<Generation, Global>, Fail> {
-    let target = Target {
-        node: 0,
-        host: Bytes::from_slice(alloc, b"127.0.0.1")?,
-        port: 9000,
-        pass_host: true,
-    };
-    let rule = Leaf {
-        matcher: Matcher::PathPrefix,
-        value: Bytes::from_slice(alloc, b"/")?,
-    };
-    let mut routes = List::new(alloc);
-    routes.push(Route {
-        row: 0,
-        name: Bytes::from_slice(alloc, b"r@file")?,
-        rule,
-        priority: 15,
-        target,
-    })?;
-    Ok(Arc::new(alloc, Generation::new(1, routes))?)
+    match one_router(alloc, 1, b"PathPrefix(`/`)", b"http://127.0.0.1:9000")? {
+        Some(generation) => Ok(Arc::new(alloc, generation)?),
+        None => Err(Fail::from("not served")),
+    }
 }
 
 fn event_of(

@@ -1,5 +1,6 @@
 //! The machine of one client connection: how a request gets its server.
 ghost use Rattle.std.specs.Prelude.{◌≡◌, ◌<◌, ◌++◌, ◌∷◌, [], List, ℕ, OnOk, IfSome, vec_len, vec_capacity};
+ghost use Rattle.std.specs.Option.{option_copied};
 ghost use Rattle.conversation.specs.Steps.{Step, looked, drew, spent};
 ghost use Rattle.conn_machine.specs.Prompt.{IsPrompt};
 ghost use Rattle.conn_machine.specs.Reached.{Reached, IsGoing, Waits, KeepsServer, WaitsIn, WantsNode};
@@ -15,7 +16,8 @@ use std::alloc::Global;
 impl Conn {
     /// Where the current request goes, once its router is known.
     pub fn aim(&self) -> Option<&Aim>
-        ensures { IfSome result (λ a. WantsNode self.now a.now.node) }
+        ensures aim { option_copied result ≡ self.now.current.aim }
+        ensures wants { IfSome result (λ a. WantsNode self.now a.now.node) }
     {
         self.current.aim.as_ref()
     }

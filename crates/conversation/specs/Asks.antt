@@ -16,7 +16,8 @@ use Rattle.link_world.specs.declared.note.Cause.{Cause}
 use Rattle.link_world.specs.declared.note.Cause.TheVariants.{Head, HeadTooLarge}
 use Rattle.link_world.specs.declared.note.HeadName.{HeadName}
 use Rattle.link_world.specs.declared.note.HeadName.TheVariants as name
-use Rattle.conversation.specs.Plans.{Judged}
+use Rattle.rule_eval.specs.Pairs.{query_pairs}
+use Rattle.rule_eval.specs.Truth.{Asked}
 
 -- what one request asks for
 pub data Ask : Type 0 where
@@ -55,9 +56,9 @@ abbrev pub query_bytes : Option (List ℕ) → List ℕ
 query_bytes None = []
 query_bytes (Some q) = q
 
--- what rules judge of this request, whose head is this one: the head's own method and lines
-abbrev pub judged : RequestHead → Request → Judged
-judged h r = record { method = h.method; host = host_of_rules r.host; path = r.path; query = query_bytes r.query; lines = fields_of h }
+-- what rules are asked of this request, whose head is this one: the head's own method and lines
+abbrev pub judged : RequestHead → Request → Asked
+judged h r = record { method = h.method; host = host_of_rules r.host; path = r.path; pairs = query_pairs (query_bytes r.query); lines = fields_of h }
 
 -- a request without a body that isn't a HEAD
 pub record IsServed (r : Request) : Type 0 where

@@ -4,7 +4,7 @@ ghost use Rattle.desk.specs.Issues.{issue_plan};
 
 use crate::{OneDesk, Shared};
 use generation::Generation;
-use px_base::{List, Memory};
+use px_base::Memory;
 use std::alloc::Global;
 use std::sync::{Arc, Wait};
 use std::test::Fail;
@@ -13,7 +13,7 @@ use wrr_deadlines::{Drawn, Pick};
 fn numbered(alloc: Global, number: u64) -> Result<Arc<Generation, Global>, Memory>
     ensures { IfOk result (λ issue. (issue_plan issue).number ≡ number) }
 {
-    let generation = Generation::new(number, List::new(alloc));
+    let generation = Generation::empty(alloc, number)?;
     let Ok(issue) = Arc::new(alloc, generation) else {
         return Err(std::alloc::AllocError);
     };

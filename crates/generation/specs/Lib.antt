@@ -1,2 +1,3 @@
-pub mod Winner
+pub mod Nodes
 pub mod Meaning
+pub mod Built

@@ -1,37 +1,38 @@
 -- What a published configuration means to a connection.
-use Rattle.std.specs.Prelude.{ℕ, ◌==◌, false, List, [], ◌∷◌, None, if◌then◌else◌}
-use Rattle.std.specs.Option.{option_map}
-use Rattle.head_view.specs.Views.{view_lines}
-use Rattle.head_view.specs.declared.views.RequestView.{RequestView}
-use Rattle.conversation.specs.Plans.{Plan, Judged, Target as Aim}
-use Rattle.generation.specs.declared.route.Route.{Route}
-use Rattle.generation.specs.declared.route.Target.{Target}
+use Rattle.std.specs.Prelude.{ℕ, false, List, [], ◌∷◌, Option, Some, None, if◌then◌else◌, bytes_eq, slice_get}
+use Rattle.conversation.specs.Plans.{Plan, Target as Aim}
+use Rattle.router_table.specs.declared.row.Row.{Row}
+use Rattle.router_table.specs.declared.row.RouterState.{RouterState}
+use Rattle.router_table.specs.declared.row.RouterState.TheVariants.{Enabled, Disabled}
+use Rattle.generation.specs.declared.nodes.Target.{Target}
+use Rattle.generation.specs.declared.nodes.Node.{Node}
 use Rattle.generation.specs.declared.generation.Generation.{Generation}
-use Rattle.generation.specs.Winner.{best_of}
-
--- what a view shows to rules
-abbrev pub judged_by : RequestView → Judged
-judged_by v = record { method = v.method.now; host = v.host.now; path = v.path.now; query = v.query.now; lines = view_lines v }
-
-abbrev pub row_of : Route → ℕ
-row_of q = q.row
 
 abbrev pub aim_of : Target → Aim
 aim_of t = record { node = t.node; host = t.host; port = t.port; pass_host = t.pass_host }
 
--- where no router has the row
+-- where nothing leads
 abbrev pub nowhere : Aim
 nowhere = record { node = 0; host = []; port = 0; pass_host = false }
 
--- the target of the first router with this row
-abbrev pub target_at : List Route → ℕ → Aim
-target_at [] row = nowhere
-target_at (q ∷ qs) row = if q.row == row then aim_of q.target else target_at qs row
+-- where the first node with this name leads
+abbrev pub aim_named : List Node → List ℕ → Aim
+aim_named [] name = nowhere
+aim_named (n ∷ ns) name = if bytes_eq n.name name then aim_of n.target else aim_named ns name
 
--- its number, the winner's row, and where each row leads
+-- where a router in this state leads: to its service
+abbrev pub aim_by : List Node → RouterState → Aim
+aim_by nodes (Enabled service chain search) = aim_named nodes service
+aim_by nodes (Disabled fault) = nowhere
+
+abbrev pub aim_in : List Node → Option Row → Aim
+aim_in nodes None = nowhere
+aim_in nodes (Some row) = aim_by nodes row.state
+
+-- its number, its rows, and where each row leads
 abbrev pub plan_of : Generation → Plan
 plan_of g = record {
   number = g.number;
-  winner = λ entry r peer. option_map row_of (best_of r None g.routes);
-  target = λ row. target_at g.routes row;
+  rows = g.table.rows;
+  target = λ row. aim_in g.nodes (slice_get g.table.rows row);
 }

@@ -1,29 +1,43 @@
-// A configuration under its number.
-ghost use Rattle.std.specs.Prelude.{◌≡◌, IfSome, IfOk, MatchOption, Option, List, [], ◌∷◌};
-ghost use Rattle.std.specs.Option.{option_map};
-ghost use Rattle.generation.specs.Winner.{best_of, better as better_of};
-ghost use Rattle.generation.specs.Meaning.{plan_of, row_of, aim_of, target_at, nowhere, judged_by};
+//! A configuration under its number.
+ghost use Rattle.std.specs.Prelude.{◌≡◌, [], IfOk, MatchOption, List as Items};
+ghost use Rattle.conversation.specs.Plans.{IsWinner};
+ghost use Rattle.rule_eval.specs.Truth.{asked_of};
+ghost use Rattle.generation.specs.Meaning.{plan_of, aim_of, aim_named, nowhere};
 
-use crate::route::{Route, Target, beats, takes};
+use crate::nodes::{Node, Target};
+use dyn_config::Merged;
 use head_view::RequestView;
 use ip_net::Ip;
-use px_base::{List as Items, Memory};
+use px_base::{List, Memory};
+use router_table::{RouterState, Table, build_table, rows, winner};
+use rule_eval::RegexShop;
 use std::alloc::Global;
 
 /// A configuration as it was published, under its number.
-#[derive(Debug, Drop)]
+#[derive(Drop)]
 pub struct Generation {
-    number: u64,
-    routes: Items<Route>,
+    pub(crate) number: u64,
+    pub(crate) table: Table,
+    pub(crate) nodes: List<Node>,
 }
 
 impl Generation {
-    /// The configuration with this number and these routers.
-    pub fn new(number: u64, routes: Items<Route>) -> Generation
-        ensures number { (plan_of result).number ≡ number }
-        ensures routes { result.routes ≡ routes }
+    /// The configuration without routers, under this number.
+    pub fn empty(alloc: Global, number: u64) -> Result<Generation, Memory>
+        ensures number { IfOk result (λ g. (plan_of g).number ≡ number) }
+        ensures rows { IfOk result (λ g. (plan_of g).rows ≡ []) }
     {
-        Generation { number, routes }
+        let merged = Merged {
+            routers: List::new(alloc),
+            services: List::new(alloc),
+            middlewares: List::new(alloc),
+        };
+        let table = build_table(alloc, &merged, &[], &[], 0, &mut RegexShop::new(alloc))?;
+        Ok(Generation {
+            number,
+            table,
+            nodes: List::new(alloc),
+        })
     }
 
     /// Its number: each publication has one more than the one before it.
@@ -33,22 +47,18 @@ impl Generation {
         self.number
     }
 
-    /// The row of the router that a request gets at an entry point, if it gets one. Each router is on every entry point
-    /// and no rule has a pattern yet, so neither the entry point nor memory is asked for.
+    /// The row of the router that a request gets: of those that are enabled, on its entry point, and whose rule is true of
+    /// it, the one of greatest priority, and of equal ones the one of least name.
     pub fn winner(
         &self,
-        _alloc: Global,
-        _entry: &[u8],
+        alloc: Global,
+        entry: &[u8],
         view: &RequestView<'_>,
-        _peer: Ip,
+        peer: Ip,
     ) -> Result<Option<u32>, Memory>
-        ensures { IfOk result (λ row. row ≡ (plan_of self.now).winner _entry.now (judged_by view.now) _peer) }
+        ensures { IfOk result (IsWinner (plan_of self.now) entry.now (asked_of view.now) peer) }
     {
-        let mut best = None;
-        for route in self.routes.as_slice() {
-            best = better(best, route, view);
-        }
-        Ok(best.map(|route| route.row))
+        winner(alloc, &self.table, entry, view, peer)
     }
 
     /// Where the router in a row leads.
@@ -57,37 +67,28 @@ impl Generation {
             ((plan_of self.now).target row ≡ nowhere)
             (λ target. (plan_of self.now).target row ≡ aim_of target.now) }
     {
-        for route in self.routes.as_slice() {
-            if route.row == row {
-                return Some(&route.target);
-            }
+        match rows(&self.table).get(row as usize) {
+            Some(found) => match &found.state {
+                RouterState::Enabled { service, .. } => {
+                    target_of(self.nodes.as_slice(), service.as_slice())
+                }
+                RouterState::Disabled(_) => None,
+            },
+            None => None,
         }
-        None
     }
 }
 
-// The better of the best so far and one more router.
-fn better<'a>(
-    best: Option<&'a Route>,
-    route: &'a Route,
-    view: &RequestView<'_>,
-) -> Option<&'a Route>
-    ensures { option_map (λ r. r.now) result ≡ better_of (judged_by view.now) (option_map (λ r. r.now) best.entry) route.now }
+// Where the service with this name leads.
+fn target_of<'a>(nodes: &'a [Node], name: &[u8]) -> Option<&'a Target>
+    ensures { MatchOption result
+        (aim_named nodes.now name.now ≡ nowhere)
+        (λ target. aim_named nodes.now name.now ≡ aim_of target.now) }
 {
-    match best {
-        Some(held) => {
-            if takes(route, view) && beats(route, held) {
-                Some(route)
-            } else {
-                best
-            }
-        }
-        None => {
-            if takes(route, view) {
-                Some(route)
-            } else {
-                None
-            }
+    for node in nodes {
+        if node.name.as_slice() == name {
+            return Some(&node.target);
         }
     }
+    None
 }

@@ -1,12 +1,14 @@
 //! A published configuration, as a connection uses it: its number, its routers and where they lead.
 #![tactic(auto)]
 
+mod building;
 mod generation;
-mod law;
-mod route;
+mod nodes;
+mod sample;
 #[cfg(test)]
 mod tests;
 
+pub use building::{Built, build_generation};
 pub use generation::Generation;
-pub use law::winner_law;
-pub use route::{Route, Target};
+pub use nodes::{Node, Target};
+pub use sample::one_router;

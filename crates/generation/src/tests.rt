@@ -1,21 +1,19 @@
-//! Which router a request goes to.
-use crate::{Generation, Route, Target};
+//! Which router a request goes to, and where it leads.
+use crate::{Generation, one_router};
 use head_view::{EMPTY_HEADER_SPAN, Scan, scan_request, view};
 use ip_net::Ip;
-use px_base::{Bytes, List};
-use rule_lang::{Leaf, Matcher};
 use std::alloc::Global;
 use std::test::Fail;
 
-// The row that wins a request for this host and path.
+// The row that wins a request with a field line, for this host and path.
 fn winner_for(
     alloc: Global,
     generation: &Generation,
     host: &[u8],
     path: &[u8],
 ) -> Result<Option<u32>, Fail> {
-    let head = b"GET / HTTP/1.1\r\n\r\n";
-    let mut room = [EMPTY_HEADER_SPAN; 1];
+    let head = b"GET / HTTP/1.1\r\nConnection: x\r\nX: 1\r\n\r\n";
+    let mut room = [EMPTY_HEADER_SPAN; 2];
     match scan_request(head, &mut room) {
         Scan::Whole(spans) => {
             let view = view(head, &room, &spans, host, path, b"");
@@ -25,51 +23,36 @@ fn winner_for(
     }
 }
 
-fn route_of(
-    alloc: Global,
-    row: u32,
-    name: &[u8],
-    matcher: Matcher,
-    value: &[u8],
-    priority: usize,
-) -> Result<Route, Fail> {
-    let rule = Leaf {
-        matcher,
-        value: Bytes::from_slice(alloc, value)?,
-    };
-    let host = Bytes::from_slice(alloc, b"127.0.0.1")?;
-    let target = Target {
-        node: row,
-        host,
-        port: 9000,
-        pass_host: true,
-    };
-    Ok(Route {
-        row,
-        name: Bytes::from_slice(alloc, name)?,
-        rule,
-        priority,
-        target,
-    })
+fn built(alloc: Global, rule: &[u8]) -> Result<Generation, Fail> {
+    match one_router(alloc, 7, rule, b"http://127.0.0.1:9000")? {
+        Some(generation) => Ok(generation),
+        None => Err(Fail::from("not served")),
+    }
 }
 
 #[test]
 fn winners(rt: HostRuntime) -> Result<(), Fail> {
     let alloc = rt.alloc();
-    let mut routes = List::new(alloc);
-    routes.push(route_of(alloc, 0, b"a@file", Matcher::PathPrefix, b"/", 15)?)?;
-    routes.push(route_of(alloc, 1, b"b@file", Matcher::PathPrefix, b"/", 15)?)?;
-    routes.push(route_of(alloc, 2, b"c@file", Matcher::Host, b"Shop.test.", 18)?)?;
-    let generation = Generation::new(7, routes);
+    let rule = b"PathPrefix(`/a`) && Header(`X`, `1`) && Header(`Connection`, `x`)";
+    let generation = built(alloc, rule)?;
     assert_eq!(rt; generation.number(), 7);
     let rows = [
-        winner_for(alloc, &generation, b"a.test", b"/x")?,
-        winner_for(alloc, &generation, b"shop.TEST", b"/x")?,
-        winner_for(alloc, &generation, b"a.test", b"x")?,
+        winner_for(alloc, &generation, b"a.test", b"/a")?,
+        winner_for(alloc, &generation, b"a.test", b"/b")?,
     ];
-    assert_eq!(rt; rows, [Some(0), Some(2), None]);
-    let port = generation.target(2).map(|target| target.port);
+    assert_eq!(rt; rows, [Some(0), None]);
+    let port = generation.target(0).map(|target| target.port);
     assert_eq!(rt; port, Some(9000));
-    assert!(rt; generation.target(3).is_none());
+    assert!(rt; generation.target(1).is_none());
+    Ok(())
+}
+
+#[test]
+fn later(rt: HostRuntime) -> Result<(), Fail> {
+    let alloc = rt.alloc();
+    let https = one_router(alloc, 1, b"Path(`/`)", b"https://a.test")?;
+    assert!(rt; https.is_none());
+    let empty = Generation::empty(alloc, 3)?;
+    assert_eq!(rt; winner_for(alloc, &empty, b"a.test", b"/a")?, None);
     Ok(())
 }

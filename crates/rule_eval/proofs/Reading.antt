@@ -7,7 +7,6 @@ use Rattle.regex_syntax.specs.Grammar.{read, Names, group_count}
 use Rattle.regex_syntax.specs.Brackets.{Nested}
 use Rattle.regex_hir.specs.Meaning.{meaning}
 use Rattle.regex_syntax.specs.Verdict.{Reads, Refuses, default_config}
-use Rattle.regex.specs.declared.error.Error.TheVariants as failure
 use Rattle.regex.specs.Failures as failures
 use Rattle.regex.specs.declared.string.regex.Regex.{Regex}
 use Rattle.std.proofs.Common.{length, option_and_then, true}

@@ -61,58 +61,54 @@ fn is_met(alloc: Global, matcher: Matcher, key: &str, value: &str) -> Result<boo
     )
 }
 
-fn fields_and_hosts(rt: &impl Abort, alloc: Global) -> Result<(), Fail> {
-    let fields = [
-        is_met(alloc, Matcher::Header, "x-A", "two")?,
-        is_met(alloc, Matcher::Header, "X-A", "Two")?,
-        is_met(alloc, Matcher::HeaderRegexp, "X-A", "^tw")?,
-        is_met(alloc, Matcher::HeaderRegexp, "X-A", "three")?,
-    ];
-    assert_eq!(rt; fields, [true, false, true, false]);
-    let hosts = [
-        is_met(alloc, Matcher::Host, "", "sHOP.test.")?,
-        is_met(alloc, Matcher::Host, "", "shop.test..")?,
-        is_met(alloc, Matcher::HostRegexp, "", "^shop")?,
-        is_met(alloc, Matcher::HostRegexp, "", "^Shop")?,
-    ];
-    assert_eq!(rt; hosts, [true, false, true, false]);
+// A call by its matcher, key and value, and whether it is true.
+type Case = (Matcher, &'static str, &'static str, bool);
+
+const FIELDS_AND_HOSTS: [Case; 8] = [
+    (Matcher::Header, "x-A", "two", true),
+    (Matcher::Header, "X-A", "Two", false),
+    (Matcher::HeaderRegexp, "X-A", "^tw", true),
+    (Matcher::HeaderRegexp, "X-A", "three", false),
+    (Matcher::Host, "", "sHOP.test.", true),
+    (Matcher::Host, "", "shop.test..", false),
+    (Matcher::HostRegexp, "", "^shop", true),
+    (Matcher::HostRegexp, "", "^Shop", false),
+];
+
+const METHODS_AND_PATHS: [Case; 8] = [
+    (Matcher::Method, "", "get", true),
+    (Matcher::Method, "", "GETS", false),
+    (Matcher::Path, "", "/a/b", true),
+    (Matcher::Path, "", "/a", false),
+    (Matcher::PathPrefix, "", "/a/", true),
+    (Matcher::PathPrefix, "", "/b", false),
+    (Matcher::PathRegexp, "", "/[b-z]$", true),
+    (Matcher::PathRegexp, "", "/[c-z]$", false),
+];
+
+const QUERIES_AND_PEERS: [Case; 9] = [
+    (Matcher::Query, "q", "a b", true),
+    (Matcher::Query, "q", "ä", true),
+    (Matcher::Query, "q", "\u{fffd}", true),
+    (Matcher::Query, "x", "", true),
+    (Matcher::Query, "q", "a+b", false),
+    (Matcher::QueryRegexp, "q", "^a.b$", true),
+    (Matcher::QueryRegexp, "x", "a", false),
+    (Matcher::ClientIp, "", "10.0.0.0/29", true),
+    (Matcher::ClientIp, "", "10.0.0.8/29", false),
+];
+
+fn try_case(rt: &impl Abort, alloc: Global, case: Case) -> Result<(), Fail> {
+    let (matcher, key, value, wanted) = case;
+    let met = is_met(alloc, matcher, key, value)?;
+    assert_eq!(rt; met, wanted);
     Ok(())
 }
 
-fn methods_and_paths(rt: &impl Abort, alloc: Global) -> Result<(), Fail> {
-    let methods = [
-        is_met(alloc, Matcher::Method, "", "get")?,
-        is_met(alloc, Matcher::Method, "", "GETS")?,
-    ];
-    assert_eq!(rt; methods, [true, false]);
-    let paths = [
-        is_met(alloc, Matcher::Path, "", "/a/b")?,
-        is_met(alloc, Matcher::Path, "", "/a")?,
-        is_met(alloc, Matcher::PathPrefix, "", "/a/")?,
-        is_met(alloc, Matcher::PathPrefix, "", "/b")?,
-        is_met(alloc, Matcher::PathRegexp, "", "/[b-z]$")?,
-        is_met(alloc, Matcher::PathRegexp, "", "/[c-z]$")?,
-    ];
-    assert_eq!(rt; paths, [true, false, true, false, true, false]);
-    Ok(())
-}
-
-fn queries_and_peers(rt: &impl Abort, alloc: Global) -> Result<(), Fail> {
-    let pairs = [
-        is_met(alloc, Matcher::Query, "q", "a b")?,
-        is_met(alloc, Matcher::Query, "q", "ä")?,
-        is_met(alloc, Matcher::Query, "q", "\u{fffd}")?,
-        is_met(alloc, Matcher::Query, "x", "")?,
-        is_met(alloc, Matcher::Query, "q", "a+b")?,
-    ];
-    assert_eq!(rt; pairs, [true, true, true, true, false]);
-    let found = [
-        is_met(alloc, Matcher::QueryRegexp, "q", "^a.b$")?,
-        is_met(alloc, Matcher::QueryRegexp, "x", "a")?,
-        is_met(alloc, Matcher::ClientIp, "", "10.0.0.0/29")?,
-        is_met(alloc, Matcher::ClientIp, "", "10.0.0.8/29")?,
-    ];
-    assert_eq!(rt; found, [true, false, true, false]);
+fn try_cases(rt: &impl Abort, alloc: Global, cases: &[Case]) -> Result<(), Fail> {
+    for case in cases {
+        try_case(rt, alloc, *case)?;
+    }
     Ok(())
 }
 
@@ -131,32 +127,45 @@ fn pattern_or_peer(alloc: Global, pattern: &str, network: &str) -> Result<Rule, 
     Ok(Rule::Or(path, peer))
 }
 
-fn whole_rules(rt: &impl Abort, alloc: Global) -> Result<(), Fail> {
+// Whether the rule is true of this path at this host.
+fn is_true_at(
+    rt: &impl Abort,
+    alloc: Global,
+    rule: &Rule,
+    path: &'static [u8],
+    wanted: bool,
+) -> Result<(), Fail> {
+    let answer = is_true(alloc, rule, b"a.EXAMPLE", path, b"")?;
+    assert_eq!(rt; answer, wanted);
+    Ok(())
+}
+
+fn plain_rules(rt: &impl Abort, alloc: Global) -> Result<(), Fail> {
     let rule = host_but_no_path(alloc)?;
-    let answers = [
-        is_true(alloc, &rule, b"a.EXAMPLE", b"/y", b"")?,
-        is_true(alloc, &rule, b"a.EXAMPLE", b"/x", b"")?,
-        compiled(alloc, &rule)?.plain(),
-    ];
-    assert_eq!(rt; answers, [true, false, true]);
+    is_true_at(rt, alloc, &rule, b"/y", true)?;
+    is_true_at(rt, alloc, &rule, b"/x", false)?;
+    let plain = compiled(alloc, &rule)?.plain();
+    assert!(rt; plain);
+    Ok(())
+}
+
+fn pattern_rules(rt: &impl Abort, alloc: Global) -> Result<(), Fail> {
     let rule = pattern_or_peer(alloc, "^/y", "10.0.0.0/30")?;
-    let answers = [
-        is_true(alloc, &rule, b"", b"/y", b"")?,
-        is_true(alloc, &rule, b"", b"/x", b"")?,
-        compiled(alloc, &rule)?.plain(),
-    ];
-    assert_eq!(rt; answers, [true, false, false]);
-    assert_eq!(rt; patterns(&rule), 1);
+    is_true_at(rt, alloc, &rule, b"/y", true)?;
+    is_true_at(rt, alloc, &rule, b"/x", false)?;
+    let plain = compiled(alloc, &rule)?.plain();
+    assert_eq!(rt; (plain, patterns(&rule)), (false, 1));
     Ok(())
 }
 
 #[test]
 fn truth(rt: HostRuntime) -> Result<(), Fail> {
     let alloc = rt.alloc();
-    fields_and_hosts(&rt, alloc)?;
-    methods_and_paths(&rt, alloc)?;
-    queries_and_peers(&rt, alloc)?;
-    whole_rules(&rt, alloc)?;
+    try_cases(&rt, alloc, &FIELDS_AND_HOSTS)?;
+    try_cases(&rt, alloc, &METHODS_AND_PATHS)?;
+    try_cases(&rt, alloc, &QUERIES_AND_PEERS)?;
+    plain_rules(&rt, alloc)?;
+    pattern_rules(&rt, alloc)?;
     Ok(())
 }
 
@@ -169,24 +178,27 @@ fn fault_of(alloc: Global, rule: &Rule, too_big: &[u64]) -> Result<Option<Compil
     }
 }
 
-fn compile_faults(rt: &impl Abort, alloc: Global) -> Result<(), Fail> {
-    let good = pattern_or_peer(alloc, "a", "10.0.0.0/8")?;
-    let faults = [
-        fault_of(alloc, &good, &[])?,
-        fault_of(alloc, &good, &[1])?,
-        fault_of(alloc, &good, &[2])?,
-        fault_of(alloc, &pattern_or_peer(alloc, "(", "10.0.0.0/8")?, &[1])?,
-        fault_of(alloc, &pattern_or_peer(alloc, "a", "10.0.0.0/33")?, &[])?,
-    ];
-    let wanted = [
-        None,
-        Some(CompileFault::TooBig { leaf: 0 }),
-        None,
-        Some(CompileFault::Syntax { leaf: 0 }),
-        Some(CompileFault::Address { leaf: 1 }),
-    ];
-    assert_eq!(rt; faults, wanted);
+fn try_fault(
+    rt: &impl Abort,
+    alloc: Global,
+    rule: (&'static str, &'static str),
+    too_big: u64,
+    wanted: Option<CompileFault>,
+) -> Result<(), Fail> {
+    let rule = pattern_or_peer(alloc, rule.0, rule.1)?;
+    let fault = fault_of(alloc, &rule, &[too_big])?;
+    assert_eq!(rt; fault, wanted);
     Ok(())
+}
+
+fn compile_faults(rt: &impl Abort, alloc: Global) -> Result<(), Fail> {
+    let too_big = Some(CompileFault::TooBig { leaf: 0 });
+    let syntax = Some(CompileFault::Syntax { leaf: 0 });
+    let address = Some(CompileFault::Address { leaf: 1 });
+    try_fault(rt, alloc, ("a", "10.0.0.0/8"), 2, None)?;
+    try_fault(rt, alloc, ("a", "10.0.0.0/8"), 1, too_big)?;
+    try_fault(rt, alloc, ("(", "10.0.0.0/8"), 1, syntax)?;
+    try_fault(rt, alloc, ("a", "10.0.0.0/33"), 2, address)
 }
 
 // What a shop says of a text.

@@ -1,44 +1,19 @@
 //! Whole runs.
-use crate::{Event, Kind, Refused, System};
-use conn_machine::{EventKind, StateName};
-use generation::{Generation, Route, Target};
+use crate::{Event, System};
+use generation::{Generation, one_router};
 use ip_net::Ip;
-use px_base::{Bytes, List, Memory};
-use rule_lang::{Leaf, Matcher};
-use std::alloc::{AllocError, Global};
+use px_base::Bytes;
+use std::alloc::Global;
 use std::process::Abort;
 use std::sync::Arc;
 use std::test::Fail;
 
 // One router for each path, which leads to one server.
-fn generation(alloc: Global, number: u64) -> Result<Arc<Generation, Global>, Memory> {
-    let mut routes = List::new(alloc);
-    routes.push(Route {
-        row: 0,
-        name: Bytes::from_slice(alloc, b"r@file")?,
-        rule: Leaf {
-            matcher: Matcher::PathPrefix,
-            value: Bytes::from_slice(alloc, b"/")?,
-        },
-        priority: 15,
-        target: Target {
-            node: 0,
-            host: Bytes::from_slice(alloc, b"127.0.0.1")?,
-            port: 9000,
-            pass_host: true,
-        },
-    })?;
-    let Ok(issue) = Arc::new(alloc, Generation::new(number, routes)) else {
-        return Err(AllocError);
-    };
-    Ok(issue)
-}
-
-fn empty(alloc: Global) -> Result<Arc<Generation, Global>, Memory> {
-    let Ok(issue) = Arc::new(alloc, Generation::new(0, List::new(alloc))) else {
-        return Err(AllocError);
-    };
-    Ok(issue)
+fn generation(alloc: Global, number: u64) -> Result<Arc<Generation, Global>, Fail> {
+    match one_router(alloc, number, b"PathPrefix(`/`)", b"http://127.0.0.1:9000")? {
+        Some(generation) => Ok(Arc::new(alloc, generation)?),
+        None => Err(Fail::from("not served")),
+    }
 }
 
 fn tell(rt: &impl Abort, alloc: Global, system: &mut System, event: Event) {
@@ -49,7 +24,7 @@ fn tell(rt: &impl Abort, alloc: Global, system: &mut System, event: Event) {
 #[test]
 fn runs(rt: HostRuntime) -> Result<(), Fail> {
     let alloc = rt.alloc();
-    let mut system = System::new(alloc, empty(alloc)?)?;
+    let mut system = System::new(alloc, Arc::new(alloc, Generation::empty(alloc, 0)?)?)?;
     if system.published() == 1 {
         let issue = generation(alloc, 1)?;
         tell(&rt, alloc, &mut system, Event::Config { issue });

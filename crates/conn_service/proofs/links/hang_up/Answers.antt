@@ -1,0 +1,12 @@
+use Rattle.std.proofs.Common.{refl, inl, sym, ◌∙◌}
+use Rattle.std.specs.Prelude.{IsTrue}
+use Rattle.conn_service.proofs.Wents.{went_same, went_close}
+use Rattle.conn_service.proofs.Lists.{not_false}
+use Rattle.conn_service.proofs.links.hang_up.Goals as goal
+
+pub returns-then-is_open-clause-went : goal.returns-then-is_open-clause-went
+returns-then-is_open-clause-went g c = λ desk. went_same c.requires
+
+pub returns-clause-went : goal.returns-clause-went
+returns-clause-went g c = λ desk. went_close c.args.conn.now.client.link (went_same c.requires) (inl refl) c.requires.come c.close.ensures.seen c.close.ensures.lately
+    (λ is. absurd (not_false (c.is_open.ensures.1 is) c.if-is_open.false)) (λ ex. absurd (not_false (c.is_open.ensures.1 ex.phase) c.if-is_open.false))

@@ -1,0 +1,44 @@
+use Rattle.std.proofs.Common.{rules, refl, [], ◌∙◌, subst, sym, ◌≡◌}
+use Rattle.conn_machine.specs.declared.conn.Conn.{Conn}
+use Rattle.conn_service.specs.Moments.{moment}
+use Rattle.conn_service.specs.Went.{Went}
+use Rattle.conn_service.proofs.Wents.{went_then, went_same, went_note, lost_note, at_err, keeps_note, still_kept, notes_then, stands_then, told_of, no_desk}
+use Rattle.conn_service.proofs.service.tell.Goals as goal
+
+pub notes-init : goal.notes-init
+notes-init g c = record { went = λ desk. went_same c.requires.linked; lately = refl; open_ = λ opened. refl; ending = λ end. end }
+
+pub returns-in_err-note-clause-lost : goal.returns-in_err-note-clause-lost
+returns-in_err-note-clause-lost g c = λ desk. at_err c.from_residual.result (lost_note (c.notes.invariant.went desk) c.in_err-note.ensures.seen c.in_err-note.ensures.lately c.in-Some.ensures.unended)
+
+pub returns-in_err-note-clause-lately : goal.returns-in_err-note-clause-lately
+returns-in_err-note-clause-lately g c = c.in_err-note.ensures.lately ∙ c.notes.invariant.lately
+
+pub notes-preserved : goal.notes-preserved
+notes-preserved g c = record {
+  went = λ desk.
+      let before = c.notes.invariant.went desk in
+      went_then before (went_note c.in-Some.note before.conn.linked (c.in-Some.ensures.of_link _ (stands_then before c.requires.tracked.1).reached)
+      c.in_ok-note.ensures.seen c.in_ok-note.ensures.lately
+      (keeps_note (still_kept c.args.conn.now c.notes.conn c.requires.kept c.notes.invariant.open_ c.notes.invariant.ending) c.take_note.ensures.open c.take_note.ensures.ending c.take_note.ensures.client c.take_note.ensures.number)
+      c.in-Some.ensures.reached);
+  lately = c.in_ok-note.ensures.lately ∙ c.notes.invariant.lately;
+  open_ = notes_then c.args.conn.now c.notes.conn c.take_note.new.self c.notes.invariant.open_ c.take_note.ensures.open;
+  ending = λ end. c.take_note.ensures.ending (c.notes.invariant.ending end);
+}
+
+pub returns-clause-went : goal.returns-clause-went
+returns-clause-went g c = λ desk. subst (λ (x : Conn). Went ⊥ (moment (g.W.World.seen c.args.world.now) (g.W.World.lately c.args.world.now) desk c.args.conn.now) (moment (g.W.World.seen c.notes.world) (g.W.World.lately c.notes.world) desk x))
+    (sym c.in_default.ensures.none) (c.notes.invariant.went desk)
+
+pub returns-clause-lately : goal.returns-clause-lately
+returns-clause-lately g c = c.notes.invariant.lately
+
+pub returns-clause-told : goal.returns-clause-told
+returns-clause-told g c = c.in_default.ensures.drained.0
+
+pub returns-clause-open : goal.returns-clause-open
+returns-clause-open g c = notes_then c.args.conn.now c.notes.conn c.take_note.new.self c.notes.invariant.open_ c.take_note.ensures.open
+
+pub returns-clause-finished : goal.returns-clause-finished
+returns-clause-finished g c = λ end. (c.in_default.ensures.drained.0, told_of c.take_note.new.self.phase (c.take_note.ensures.ending (c.notes.invariant.ending end)) c.in_default.ensures.drained.1)

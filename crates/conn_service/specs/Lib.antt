@@ -1,0 +1,7 @@
+pub mod Moments
+pub mod Choices
+pub mod Pins
+pub mod Went
+pub mod Calm
+pub mod Released
+pub mod Counts

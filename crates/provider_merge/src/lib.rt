@@ -1,0 +1,7 @@
+//! The configurations of all providers as one.
+#![tactic(auto)]
+
+mod both;
+mod union;
+
+pub use both::merge;

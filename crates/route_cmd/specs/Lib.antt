@@ -1,0 +1,4 @@
+pub mod Routes
+pub mod Requests
+pub mod Output
+pub mod Parts

@@ -1,0 +1,122 @@
+-- What `route` answers: its status and its text, by what its words say, the file and the input.
+use Rattle.std.specs.Prelude.{◌≡◌, ◌≢◌, ℕ, ◌<◌, ◌≤◌, List, [], ◌∷◌, ◌++◌, length, Contains, codes, Option, Some, None, IfSome, slice_get, Err, Ok, ⊤}
+use Rattle.std.specs.Fmt.{decimal}
+use Rattle.httparse.specs.Grammar.{RequestHead, ReadsRequest, NeverHasRequest, MayBecomeRequest}
+use Rattle.head_view.specs.Lines.{line_feeds}
+use Rattle.head_view.specs.Scans.{HasHead}
+use Rattle.ip_net.specs.declared.ip.Ip.{Ip}
+use Rattle.px_base.specs.declared.server.Server.{Server}
+use Rattle.dyn_config.specs.declared.config.Config.{Config}
+use Rattle.dyn_config.specs.declared.merged.Entry.{Entry}
+use Rattle.dyn_config.specs.declared.merged.Merged.{Merged}
+use Rattle.dyn_config.specs.declared.service.ServiceDef.{ServiceDef}
+use Rattle.file_provider.specs.Files.{IsFileConfig, WasRead as WasFileRead}
+use Rattle.file_provider.specs.declared.config.FileFault.{FileFault}
+use Rattle.file_provider.specs.declared.config.FileFault.TheVariants as file
+use Rattle.fault_text.specs.Files.{file_fault_text}
+use Rattle.http_wire.specs.declared.requests.HeadFault.{HeadFault}
+use Rattle.http_wire.specs.declared.requests.HeadFault.TheVariants as fault
+use Rattle.rule_eval.specs.Truth.{Asked}
+use Rattle.router_table.specs.Winner.{NoWinner, IsWinner}
+use Rattle.router_table.specs.declared.row.RouterState.{RouterState}
+use Rattle.router_table.specs.declared.row.RouterState.TheVariants.{Enabled, Disabled}
+use Rattle.router_table.specs.declared.row.Row.{Row}
+use Rattle.service_graph.specs.Only.{IsOnlyServer, IsFirstForm}
+use Rattle.route_cmd.specs.declared.answer.Stop.{Stop}
+use Rattle.route_cmd.specs.declared.answer.Stop.TheVariants.{File, Input, Memory}
+use Rattle.route_cmd.specs.Routes.{IsFileAlone, AreRoutes, Refuses}
+use Rattle.route_cmd.specs.Requests.{HasFault, IsFaultless, IsLater, IsAsked, head_fault_name, request_text}
+
+-- a line of text
+abbrev pub line : List ℕ → List ℕ
+line text = text ++ 10 ∷ []
+
+-- a source gave these bytes to its end, and they keep the limit: all that it had left, where it tells that
+pub record WasRead (left : Option (List ℕ)) (limit : ℕ) (bytes : List ℕ) : Type 0 where
+  pub all : IfSome left (λ had. bytes ≡ had)
+  pub fits : length bytes ≤ limit
+
+-- a source had more left than the limit, where it tells that
+abbrev pub IsOver : Option (List ℕ) → ℕ → Type 0
+IsOver left limit = IfSome left (λ had. limit < length had)
+
+-- how many bytes a configuration file may have, and an input
+abbrev pub file_limit : ℕ
+file_limit = 1048576
+
+abbrev pub input_limit : ℕ
+input_limit = 16384
+
+-- the line of a request that is forwarded
+abbrev pub forward_text : List ℕ → List ℕ → ℕ → List ℕ
+forward_text router host port = line (codes "forward " ++ router ++ codes " http://" ++ host ++ codes ":" ++ decimal port)
+
+-- the router of this state is enabled, and its service has this name
+abbrev pub LeadsTo : RouterState → List ℕ → Type 0
+LeadsTo (Enabled service chain search) name = service ≡ name
+LeadsTo (Disabled fault) name = ⊥
+
+-- where a row leads: to the one server of its service
+pub record IsServerOf (m : Merged) (row : Row) (s : Server) : Type 0 where
+  pub service : Entry ServiceDef
+  pub declared : Contains m.services service
+  pub named : LeadsTo row.state service.name
+  pub only : IsOnlyServer service.def s
+
+-- the line for a request: to the server of the winner's service, or 404
+pub data Routed (m : Merged) (rows : List Row) (entry : List ℕ) (asked : Asked) (peer : Ip) (text : List ℕ) : Type 0 where
+  nowhere : NoWinner rows entry asked peer → text ≡ line (codes "404") → Routed m rows entry asked peer text
+  forward : (n : ℕ) (row : Row) (s : Server) → IsWinner rows entry asked peer n → slice_get rows n ≡ Some row → IsServerOf m row s
+      → text ≡ forward_text row.name s.host s.port → Routed m rows entry asked peer text
+
+-- the answer to a head, and to what stands behind it
+pub data HeadAnswer (m : Merged) (rows : List Row) (entry : List ℕ) (peer : Ip) (h : RequestHead) (rest : List ℕ) (status : ℕ) (text : List ℕ) : Type 0 where
+  faulty : (f : HeadFault) → HasFault h f → status ≡ 4 → text ≡ line (request_text (head_fault_name f)) → HeadAnswer m rows entry peer h rest status text
+  later : IsFaultless h → IsLater h → status ≡ 4 → text ≡ line (codes "request Later") → HeadAnswer m rows entry peer h rest status text
+  trailing : IsFaultless h → ¬ (IsLater h) → rest ≢ [] → status ≡ 4 → text ≡ line (codes "request Trailing") → HeadAnswer m rows entry peer h rest status text
+  routed : IsFaultless h → ¬ (IsLater h) → rest ≡ [] → (asked : Asked) → IsAsked h asked → Routed m rows entry asked peer text → status ≡ 0
+      → HeadAnswer m rows entry peer h rest status text
+
+-- the answer to an input that keeps its limit
+pub data Answered (m : Merged) (rows : List Row) (entry : List ℕ) (peer : Ip) (input : List ℕ) (status : ℕ) (text : List ℕ) : Type 0 where
+  no_head : NeverHasRequest input → status ≡ 4 → text ≡ line (request_text (head_fault_name fault.BadHead)) → Answered m rows entry peer input status text
+  part : ¬ (HasHead 100 input) → MayBecomeRequest input → status ≡ 4 → text ≡ line (codes "request Part") → Answered m rows entry peer input status text
+  too_many : ¬ (HasHead 100 input) → 100 < line_feeds input → status ≡ 4 → text ≡ line (codes "request TooMany") → Answered m rows entry peer input status text
+  head : (h : RequestHead) (rest : List ℕ) → ReadsRequest input h rest → length h.fields ≤ 100 → HeadAnswer m rows entry peer h rest status text
+      → Answered m rows entry peer input status text
+
+-- the answer to what is left of the input's source
+pub data InputOutput (m : Merged) (rows : List Row) (entry : List ℕ) (peer : Ip) (input : Option (List ℕ)) (status : ℕ) (text : List ℕ) : Type 0 where
+  long_input : IsOver input input_limit → status ≡ 8 → text ≡ line (codes "too long") → InputOutput m rows entry peer input status text
+  answered : (bytes : List ℕ) → WasRead input input_limit bytes → Answered m rows entry peer bytes status text → InputOutput m rows entry peer input status text
+
+-- the file's source was read, and the file is this configuration
+pub record IsConfigured (file : Option (List ℕ)) (m : Merged) : Type 0 where
+  pub bytes : List ℕ
+  pub was_read : WasFileRead file bytes
+  pub config : Config
+  pub means : IsFileConfig bytes (Ok config)
+  pub alone : IsFileAlone config m
+
+-- the answer of `route` for an entry point and a peer, by what is left of the file's source and of the input's: the file comes first.
+-- `old` and `new` are what the shop counted before and after.
+pub data RouteOutput (entry : List ℕ) (peer : Ip) (old new : ℕ) (file input : Option (List ℕ)) (status : ℕ) (text : List ℕ) : Type 0 where
+  long_file : IsOver file file_limit → status ≡ 8 → text ≡ line (codes "too long") → RouteOutput entry peer old new file input status text
+  refused_file : (bytes : List ℕ) (f : FileFault) → WasFileRead file bytes → IsFileConfig bytes (Err f) → f ≢ file.Memory
+      → status ≡ 3 → text ≡ line (file_fault_text f) → RouteOutput entry peer old new file input status text
+  later : (m : Merged) → IsConfigured file m → ¬ (IsFirstForm m) → status ≡ 3 → text ≡ line (codes "config Later")
+      → RouteOutput entry peer old new file input status text
+  configured : (m : Merged) (rows : List Row) → IsConfigured file m → IsFirstForm m → AreRoutes m rows → Refuses old new rows
+      → InputOutput m rows entry peer input status text → RouteOutput entry peer old new file input status text
+
+-- why there is no answer: the file's source failed; or, under a file that is fine, the input's did
+abbrev pub Stops : Option (List ℕ) → (file_failed input_failed : Type 0) → Stop → Type 0
+Stops file file_failed input_failed File = file_failed
+Stops file file_failed input_failed Input = (m : Merged) × IsConfigured file m × IsFirstForm m × input_failed
+Stops file file_failed input_failed Memory = ⊤
+
+-- the same, where the file is known
+abbrev pub StopsInput : Type 0 → Stop → Type 0
+StopsInput input_failed File = ⊥
+StopsInput input_failed Input = input_failed
+StopsInput input_failed Memory = ⊤

@@ -1,0 +1,14 @@
+//! The command `route`: where a request head would go under a configuration file.
+#![tactic(auto)]
+
+mod answer;
+mod heads;
+mod lines;
+mod requests;
+mod route;
+mod routes;
+#[cfg(test)]
+mod tests;
+
+pub use answer::{Answer, Stop};
+pub use route::answer_route;

@@ -1,0 +1,87 @@
+//! The command.
+ghost use Rattle.std.specs.Prelude.{◌≡◌, ◌≢◌, ℕ, List, Option, Ok, Err, ⊤, true, IfOk, IfErr, OnOk};
+ghost use Rattle.px_base.specs.Bytes.{Rose};
+ghost use Rattle.file_provider.specs.Files.{IsFileConfig, WasRead as WasFileRead};
+ghost use Rattle.file_provider.specs.declared.config.FileFault.TheVariants.{Memory as NoMemory};
+ghost use Rattle.route_cmd.specs.Output.{RouteOutput, Stops, line};
+ghost use Rattle.fault_text.specs.Files.{file_fault_text};
+
+use crate::answer::{Answer, Stop, make_answer};
+use crate::requests::answer_source;
+use crate::routes::{merged_of, routes_of};
+use dyn_config::Config;
+use fault_text::push_file_fault;
+use file_provider::{FileFault, PollFault, poll_file};
+use ip_net::Ip;
+use px_base::{Memory, Source};
+use rule_eval::PatternShop;
+use service_graph::is_first_form;
+use std::alloc::Global;
+
+/// The answer of `route` to a request head, which comes at this entry point from this peer, under the configuration of a file.
+///
+/// | Status | Text |
+/// |---|---|
+/// | 0 | `404`, or `forward <router> http://<host>:<port>` |
+/// | 3 | `config <fault>`: the file is no configuration, or one that isn't served yet |
+/// | 4 | `request <fault>`: the input isn't one whole head that is routed |
+/// | 8 | `too long`: the file has more than 1 MiB, or the input more than 16,384 bytes |
+pub fn answer_route<C: Source, Q: Source, S: PatternShop>(
+    alloc: Global,
+    entry: &[u8],
+    peer: Ip,
+    config: &mut C,
+    input: &mut Q,
+    shop: &mut S,
+) -> Result<Answer, Stop>
+    ensures told { IfOk result (λ a. RouteOutput entry.now peer (S.refusals shop.old) (S.refusals shop.new)
+        (C.left config.old) (Q.left input.old) a.status a.text.items) }
+    // The input was read to its end.
+    ensures end { IfOk result (λ a. a.status ≡ 0 → Q.ended input.new ≡ true) }
+    // These statuses say that a source or a sink failed.
+    ensures apart { IfOk result (λ a. (a.status ≢ 5) × (a.status ≢ 6)) }
+    ensures stop { IfErr result (Stops (C.left config.old) (Rose (C.faults config.old) (C.faults config.new))
+        (Rose (Q.faults input.old) (Q.faults input.new))) }
+{
+    match poll_file(alloc, config) {
+        Ok(config) => answer_config(alloc, entry, peer, config, input, shop),
+        Err(PollFault::File(FileFault::Memory)) => Err(Stop::Memory),
+        Err(PollFault::File(fault)) => Ok(fault_answer(alloc, &fault)?),
+        Err(PollFault::ReadFault) => Err(Stop::File),
+        Err(PollFault::TooLong) => Ok(make_answer(alloc, 8, b"too long\n")?),
+        Err(PollFault::Memory) => Err(Stop::Memory),
+    }
+}
+
+fn fault_answer(alloc: Global, fault: &FileFault) -> Result<Answer, Memory>
+    ensures { IfOk result (λ a. (a.status ≡ 3) × (a.text.items ≡ line (file_fault_text fault.now))) }
+{
+    let mut text = Vec::new(alloc);
+    push_file_fault(fault, &mut text)?;
+    text.extend_from_slice(b"\n")?;
+    Ok(Answer { status: 3, text })
+}
+
+// The answer under a configuration.
+fn answer_config<Q: Source, S: PatternShop>(
+    alloc: Global,
+    entry: &[u8],
+    peer: Ip,
+    config: Config,
+    input: &mut Q,
+    shop: &mut S,
+) -> Result<Answer, Stop>
+    ensures told { IfOk result (λ a. (file : Option (List ℕ)) (bytes : List ℕ) → WasFileRead file bytes → IsFileConfig bytes (Ok config)
+        → RouteOutput entry.now peer (S.refusals shop.old) (S.refusals shop.new) file (Q.left input.old) a.status a.text.items) }
+    ensures end { IfOk result (λ a. a.status ≡ 0 → Q.ended input.new ≡ true) }
+    ensures apart { IfOk result (λ a. (a.status ≢ 5) × (a.status ≢ 6)) }
+    ensures stop { IfErr result (λ stop. (file : Option (List ℕ)) (bytes : List ℕ) → WasFileRead file bytes → IsFileConfig bytes (Ok config)
+        → Stops file ⊥ (Rose (Q.faults input.old) (Q.faults input.new)) stop) }
+{
+    let merged = merged_of(alloc, config)?;
+    if !is_first_form(alloc, &merged)? {
+        return Ok(make_answer(alloc, 3, b"config Later\n")?);
+    }
+    let routes = routes_of(alloc, merged, shop)?;
+    answer_source(alloc, &routes, entry, peer, input)
+}

@@ -1,0 +1,5 @@
+pub mod Lists
+pub mod Frames
+pub mod Servings
+pub mod Comings
+pub mod Accountings

@@ -1,0 +1,60 @@
+use Rattle.std.proofs.Common.{◌≡◌, ℕ, rules, sym, ◌∙◌, refl, arith, subst, ap}
+use Rattle.link_world.specs.Seen.{Rose, Seen}
+use Rattle.worker_loop.proofs.Servings.{runs_none, runs_attends, run_served, step_same}
+use Rattle.worker_loop.proofs.Accountings.{accounts_same, accounts_wait, accounts_failed, accounts_stop}
+use Rattle.worker_loop.proofs.Comings.{step_stop, step_wait, step_failed, stop_rose, wait_rose, wait_stops, stopped_after, rose_kept, fault_kept}
+use Rattle.worker_loop.specs.Settled.{TurnDone}
+use Rattle.worker_loop.proofs.Frames.{rose_after}
+use Rattle.worker_loop.proofs.rounds.run_worker.Goals as goal
+
+pub loop-init : goal.loop-init
+loop-init g c = (tt, tt, runs_none _ _ _ c.requires, refl, λ base from a. a, refl)
+
+pub turn-requires : goal.turn-requires
+turn-requires g c = runs_attends c.loop.invariant.2
+
+pub quit_all-requires : goal.quit_all-requires
+quit_all-requires g c = (_, runs_attends (c.turn.ensures.runs _ c.loop.invariant.2))
+
+pub returns-in_default-clause-served : goal.returns-in_default-clause-served
+returns-in_default-clause-served g c = run_served (c.quit_all.ensures.runs _ _ (c.turn.ensures.runs _ c.loop.invariant.2))
+
+pub finish-requires : goal.finish-requires
+finish-requires g c = let s = step_stop c.if-stop_asked.ensures.seen (c.turn.ensures.runs _ c.loop.invariant.2) in (_, _, s.1, s.0)
+
+pub returns-then-stop_asked-clause-served : goal.returns-then-stop_asked-clause-served
+returns-then-stop_asked-clause-served g c =
+    let s = step_stop c.if-stop_asked.ensures.seen (c.turn.ensures.runs _ c.loop.invariant.2) in
+    run_served (c.finish.ensures.runs _ _ s.1 s.0)
+
+pub returns-then-stop_asked-clause-stopped : goal.returns-then-stop_asked-clause-stopped
+returns-then-stop_asked-clause-stopped g c = λ is. rose_kept (g.W.World.seen c.loop.world) (g.W.World.seen c.turn.new.world) (g.W.World.seen c.stop_asked.new.self) (g.W.World.seen c.finish.new.world) (g.W.World.seen c.args.world.now).stops (sym c.loop.invariant.3) (sym c.turn.ensures.stops) (stop_rose (g.W.World.seen c.turn.new.world) (g.W.World.seen c.stop_asked.new.self) c.if-stop_asked.ensures.seen) c.finish.ensures.unasked
+
+pub finish-requires-in-Err : goal.finish-requires-in-Err
+finish-requires-in-Err g c =
+    let s = step_failed _ c.in-Err.ensures.seen (step_same c.if-stop_asked.ensures.seen (c.turn.ensures.runs _ c.loop.invariant.2)) in (_, _, s.1, s.0)
+
+pub returns-in-Err-clause-served : goal.returns-in-Err-clause-served
+returns-in-Err-clause-served g c =
+    let s = step_failed _ c.in-Err.ensures.seen (step_same c.if-stop_asked.ensures.seen (c.turn.ensures.runs _ c.loop.invariant.2)) in
+    run_served (c.finish-in-Err.ensures.runs _ _ s.1 s.0)
+
+pub returns-in-Err-clause-fault : goal.returns-in-Err-clause-fault
+returns-in-Err-clause-fault g c = λ is.
+    let r = step_same c.if-stop_asked.ensures.seen (c.turn.ensures.runs _ c.loop.invariant.2) in
+    fault_kept (g.W.World.seen c.args.world.now) (g.W.World.seen c.stop_asked.new.self) (g.W.World.seen c.wait.new.self) (g.W.World.seen c.finish-in-Err.new.world) r.waits (wait_rose (g.W.World.seen c.stop_asked.new.self) (g.W.World.seen c.wait.new.self) _ c.in-Err.ensures.seen) c.finish-in-Err.ensures.unasked
+
+pub loop-preserved : goal.loop-preserved
+loop-preserved g c = (tt, tt, step_wait c.in_default-wait.ensures.seen (step_same c.if-stop_asked.ensures.seen (c.turn.ensures.runs _ c.loop.invariant.2)), wait_stops (g.W.World.seen c.stop_asked.new.self) (g.W.World.seen c.wait.new.self) c.in_default-wait.ensures.seen ∙ ap (λ (s : Seen). s.stops) c.if-stop_asked.ensures.seen ∙ c.turn.ensures.stops ∙ c.loop.invariant.3, λ base from a. accounts_wait c.in_default-wait.ensures.seen (accounts_same c.if-stop_asked.ensures.seen (c.in-Ok.ensures.accounts base from (c.loop.invariant.4 base from a))), c.turn.ensures.links ∙ c.loop.invariant.5)
+
+pub returns-then-stop_asked-clause-accounts : goal.returns-then-stop_asked-clause-accounts
+returns-then-stop_asked-clause-accounts g c = λ base from not_memory a.
+    c.finish.ensures.accounts base from (g.S.Shared.desk c.turn.new.shared) not_memory (accounts_stop c.if-stop_asked.ensures.seen (c.in-Ok.ensures.accounts base from (c.loop.invariant.4 base from a)))
+
+pub returns-in-Err-clause-accounts : goal.returns-in-Err-clause-accounts
+returns-in-Err-clause-accounts g c = λ base from not_memory a.
+    c.finish-in-Err.ensures.accounts base from (g.S.Shared.desk c.turn.new.shared) not_memory (accounts_failed _ c.in-Err.ensures.seen (accounts_same c.if-stop_asked.ensures.seen (c.in-Ok.ensures.accounts base from (c.loop.invariant.4 base from a))))
+
+pub returns-then-stop_asked-clause-settled : goal.returns-then-stop_asked-clause-settled
+returns-then-stop_asked-clause-settled g c = λ is. (c.turn.new.world, c.turn.new.self.conns,
+    stopped_after (g.W.World.seen c.turn.new.world) (g.W.World.seen c.stop_asked.new.self) (g.W.World.seen c.finish.new.world) c.turn.new.self.conns c.args.worker.now.links (subst (λ (n : ℕ). TurnDone (g.W.World.lately c.turn.new.world) c.turn.new.self.conns n) (c.turn.ensures.links ∙ c.loop.invariant.5) c.in-Ok.ensures.done) c.if-stop_asked.ensures.seen c.finish.ensures.unasked c.finish.ensures.ends)

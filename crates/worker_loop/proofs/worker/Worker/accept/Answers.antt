@@ -1,0 +1,47 @@
+use Rattle.std.proofs.Common.{◌≡◌, ◌≢◌, ℕ, ap, sym, ◌∙◌, refl, true, false, Ok, Some, None}
+use Rattle.slab.specs.Slab.{Slab, get}
+use Rattle.conn_machine.specs.declared.conn.Conn.{Conn}
+use Rattle.link_world.specs.Lately.{Lately}
+use Rattle.link_world.specs.Seen.{Seen}
+use Rattle.worker_loop.proofs.Servings.{step_kept, step_same}
+use Rattle.worker_loop.proofs.Accountings.{accounts_same, accounts_kept, accounts_accept}
+use Rattle.worker_loop.proofs.Comings.{step_accept, step_away, came_stops, away_stops, settled_same, links_after, links_equal}
+use Rattle.worker_loop.proofs.worker.Worker.accept.Goals as goal
+
+pub returns-in_err-reserve-clause-runs : goal.returns-in_err-reserve-clause-runs
+returns-in_err-reserve-clause-runs g c = λ base gens r. step_kept _ _ (λ k. ap (λ (s : Slab Conn). get s k) c.reserve.ensures.rest_kept) r
+
+pub returns-in_err-client-clause-runs : goal.returns-in_err-client-clause-runs
+returns-in_err-client-clause-runs g c = λ base gens r. step_same c.in_err-client.ensures.seen (step_kept _ _ (λ k. ap (λ (s : Slab Conn). get s k) c.reserve.ensures.rest_kept) r)
+
+pub returns-in_default-clause-runs : goal.returns-in_default-clause-runs
+returns-in_default-clause-runs g c = λ base gens r. let did = rw c.in_default.is at c.in_ok-client.ensures.seen in step_same did (step_kept _ _ (λ k. ap (λ (s : Slab Conn). get s k) c.reserve.ensures.rest_kept) r)
+
+pub returns-in_default-clause-kept : goal.returns-in_default-clause-kept
+returns-in_default-clause-kept g c = λ all k. let did = rw c.in_default.is at c.in_ok-client.ensures.lately in settled_same c.args.self.now.conns c.reserve.new.self k (links_after did) (ap (λ (s : Slab Conn). get s k) c.reserve.ensures.rest_kept) (all k)
+
+pub returns-in_err-conn-clause-runs : goal.returns-in_err-conn-clause-runs
+returns-in_err-conn-clause-runs g c = λ base gens r. let did = rw c.in-Some.is at c.in_ok-client.ensures.seen in step_away c.in-Some.client did c.in_err-conn.ensures.closed (step_kept _ _ (λ k. ap (λ (s : Slab Conn). get s k) c.reserve.ensures.rest_kept) r)
+
+pub returns-clause-runs : goal.returns-clause-runs
+returns-clause-runs g c = λ base gens r.
+    let did = rw c.in-Some.is at c.in_ok-client.ensures.seen in
+    let kept : (k : ℕ) → get c.reserve.new.self k ≡ get c.args.self.now.conns k = λ k. ap (λ (s : Slab Conn). get s k) c.reserve.ensures.rest_kept in
+    step_same c.in_ok-conn.ensures.same
+    (step_accept c.in-Some.client c.in_ok-conn.conn _ _ c.insert_reserved-key.result did c.in_ok-conn.ensures.began c.insert_reserved-key.ensures.updates.changed (λ k ne. c.insert_reserved-key.ensures.updates.others k ne ∙ kept k) r)
+
+pub returns-clause-settled : goal.returns-clause-settled
+returns-clause-settled g c = λ all k ne.
+    let did = rw c.in-Some.is at c.in_ok-client.ensures.lately in
+    settled_same c.args.self.now.conns c.insert_reserved-key.new.self k (links_equal c.in_ok-conn.ensures.lately (links_after did.0)) (c.insert_reserved-key.ensures.updates.others k ne ∙ ap (λ (s : Slab Conn). get s k) c.reserve.ensures.rest_kept) (all k)
+
+pub returns-in_default-clause-accounts : goal.returns-in_default-clause-accounts
+returns-in_default-clause-accounts g c = λ base from f a. let did = rw c.in_default.is at c.in_ok-client.ensures.seen in accounts_same did (accounts_kept c.args.self.now.conns c.reserve.new.self (λ k. ap (λ (s : Slab Conn). get s k) c.reserve.ensures.rest_kept) a)
+
+pub returns-clause-accounts : goal.returns-clause-accounts
+returns-clause-accounts g c = λ base from f a.
+    let did = rw c.in-Some.is at c.in_ok-client.ensures.seen in
+    let kept : (k : ℕ) → get c.reserve.new.self k ≡ get c.args.self.now.conns k = λ k. ap (λ (s : Slab Conn). get s k) c.reserve.ensures.rest_kept in
+    accounts_same c.in_ok-conn.ensures.same
+    (accounts_accept c.in-Some.client c.in_ok-conn.conn c.args.self.now.conns c.insert_reserved-key.new.self c.insert_reserved-key.result c.requires.1.1 did c.in_ok-conn.ensures.began
+    (sym (kept c.insert_reserved-key.result) ∙ c.insert_reserved-key.ensures.was_vacant) c.insert_reserved-key.ensures.updates.changed (λ k ne. c.insert_reserved-key.ensures.updates.others k ne ∙ kept k) a)

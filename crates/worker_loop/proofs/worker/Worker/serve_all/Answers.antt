@@ -1,0 +1,33 @@
+use Rattle.std.proofs.Common.{◌≡◌, ◌≢◌, ℕ, ap, sym, ◌∙◌, refl, arith, rules}
+use Rattle.worker_loop.proofs.Servings.{runs_none, runs_attends, past_slots}
+use Rattle.worker_loop.proofs.Comings.{all_settled}
+use Rattle.worker_loop.proofs.worker.Worker.serve_all.Goals as goal
+
+pub loop-key-init : goal.loop-key-init
+loop-key-init g c = (λ base r. r, refl, record { clocked = refl; no_more = refl }, λ k lt. absurd (omega arith), λ k le. past_slots c.args.self.now.conns.slots k (omega (arith, c.capacity-end.ensures.slots, le)), refl, λ base from a. a, omega arith)
+
+pub serve_key-requires : goal.serve_key-requires
+serve_key-requires g c = runs_attends (c.loop-key.invariant.0 _ (runs_none _ _ _ c.requires))
+
+pub returns-in_err-serve_key-clause-turn : goal.returns-in_err-serve_key-clause-turn
+returns-in_err-serve_key-clause-turn g c = let t = c.serve_key.ensures.turn in let u = c.loop-key.invariant.2 in record { clocked = t.clocked ∙ u.clocked; no_more = t.no_more ∙ u.no_more }
+
+pub loop-key-preserved : goal.loop-key-preserved
+loop-key-preserved g c =
+    let t = c.serve_key.ensures.turn in
+    let u = c.loop-key.invariant.2 in (
+      λ base r. c.serve_key.ensures.runs base (c.loop-key.invariant.0 base r),
+      c.serve_key.ensures.links ∙ c.loop-key.invariant.1,
+      record { clocked = t.clocked ∙ u.clocked; no_more = t.no_more ∙ u.no_more },
+      λ k lt. c.in_ok-serve_key.ensures.settled k (λ ne. c.loop-key.invariant.3 k (omega (arith, lt, ne))),
+      λ k le. c.serve_key.ensures.others k (λ same. omega (arith, same, le, c.loop-key-test.true)) ∙ c.loop-key.invariant.4 k le,
+      c.serve_key.ensures.stops ∙ c.loop-key.invariant.5,
+      λ base from a. c.in_ok-serve_key.ensures.accounts base from (c.loop-key.invariant.6 base from a),
+      omega (arith, c.serve_key.ensures.fewer, c.loop-key.invariant.7),
+    )
+
+pub returns-clause-settled : goal.returns-clause-settled
+returns-clause-settled g c = all_settled c.loop-key.self.conns c.capacity-end.result (λ k lt. c.loop-key.invariant.3 k (omega (arith, lt, c.loop-key-test.false))) c.loop-key.invariant.4
+
+pub returns-clause-accounts : goal.returns-clause-accounts
+returns-clause-accounts g c = c.loop-key.invariant.6

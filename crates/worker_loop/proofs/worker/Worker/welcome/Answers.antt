@@ -1,0 +1,15 @@
+use Rattle.std.proofs.Common.{◌≡◌, ◌≢◌, ℕ, ap, sym, ◌∙◌, refl, arith, rules}
+use Rattle.worker_loop.proofs.Servings.{runs_none, runs_attends}
+use Rattle.worker_loop.proofs.worker.Worker.welcome.Goals as goal
+
+pub serve_key-requires : goal.serve_key-requires
+serve_key-requires g c = runs_attends (c.accept.ensures.runs _ _ (runs_none _ _ _ c.requires))
+
+pub returns-clause-settled : goal.returns-clause-settled
+returns-clause-settled g c = λ all k. c.in_ok-serve_key.ensures.settled k (λ ne. let did = rw c.in-Some.is at c.in_ok-key.ensures.settled in did all k ne)
+
+pub returns-in_default-clause-accounts : goal.returns-in_default-clause-accounts
+returns-in_default-clause-accounts g c = λ base from. c.in_ok-key.ensures.accounts base from (g.S.Shared.desk c.args.shared.now)
+
+pub returns-clause-accounts : goal.returns-clause-accounts
+returns-clause-accounts g c = λ base from a. c.in_ok-serve_key.ensures.accounts base from (c.in_ok-key.ensures.accounts base from (g.S.Shared.desk c.args.shared.now) a)

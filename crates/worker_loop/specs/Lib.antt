@@ -1,0 +1,4 @@
+pub mod Owned
+pub mod Runs
+pub mod Settled
+pub mod Accounts

@@ -1,0 +1,93 @@
+//! A worker's run.
+ghost use Rattle.std.specs.Prelude.{◌≡◌, ◌≢◌, ◌++◌, ℕ, List, IfSome, None};
+ghost use Rattle.slab.specs.Slab.{Slab, get};
+ghost use Rattle.conn_machine.specs.declared.conn.Conn.{Conn};
+ghost use Rattle.worker_loop.specs.Settled.{EndsOnly, StoppedAfter};
+ghost use Rattle.desk.specs.Desks.{Desk};
+ghost use Rattle.worker_loop.specs.Accounts.{Accounts};
+ghost use Rattle.link_world.specs.Log.{Event};
+ghost use Rattle.link_world.specs.Seen.{Seen, Rose};
+ghost use Rattle.conversation.specs.Plans.{Plan};
+ghost use Rattle.conn_service.specs.Went.{extended};
+ghost use Rattle.worker_loop.specs.Runs.{Attends, Runs, Stopping, IsStopping, EndsServed, Unasked};
+
+use crate::worker::Worker;
+use desk::Shared;
+use link_world::World;
+use std::alloc::Global;
+use std::sync::Wait;
+
+/// Why a run ended.
+#[derive(Clone, Copy, Debug, PartialEq, Eq)]
+pub enum WorkerEnd {
+    /// A stop was asked for.
+    Stopped,
+    /// A wait failed, and the world's count of faults rose.
+    WorldFault,
+    /// Memory ran out for a note or a new connection.
+    Memory,
+}
+
+/// Serves the clients that come to a world until a stop is asked for: each round is a turn, the question for a stop,
+/// and a wait. All connections are ended with notes first.
+///
+/// On each client connection that a worker ends, however messages, publications, pieces, replies and faults
+/// interleave, the bytes sent spell the replies to its requests in order; each reply and forwarded request is the
+/// meaning of one published configuration, numbered no lower than its connection had seen; 404 comes only where no
+/// router matches, 503 where no child was available, 502 where its link failed or gave no reply.
+pub fn run_worker<R: Wait, W: World, S: Shared>(
+    rt: &R,
+    alloc: Global,
+    worker: &mut Worker,
+    world: &mut W,
+    shared: &mut S,
+) -> WorkerEnd
+    requires { Attends (W.seen world.old) (S.desk shared.old).generations worker.old.conns }
+
+    // Where the world tells its log, each connection whose end this run noted was served.
+    ensures served { (ran : List Event) × ((W.seen world.new).log ≡ extended (W.seen world.old).log ran)
+        × IfSome (W.seen world.old).log (λ before. EndsServed (W.seen world.old) (W.seen world.new) (S.desk shared.new).generations before ran) }
+    // No connection is open any more.
+    ensures ended { (k : ℕ) → get worker.new.conns k ≡ None }
+
+    // Each pin of the desk since the worker first used it is accounted for.
+    ensures accounts { (base : Seen) (from : Desk) → result ≢ WorkerEnd.Memory
+        → Accounts base (W.seen world.old) from (S.desk shared.old) worker.old.conns
+        → Accounts base (W.seen world.new) from (S.desk shared.new) worker.new.conns }
+    ensures stopped { result ≡ WorkerEnd.Stopped → Rose (W.seen world.old).stops (W.seen world.new).stops }
+
+    // All was settled when the stop was asked for.
+    ensures settled { result ≡ WorkerEnd.Stopped → (at : W) × (conns : Slab Conn)
+        × StoppedAfter (W.seen at) (W.lately at) (W.seen world.new) conns worker.old.links }
+    ensures unasked { result ≡ WorkerEnd.WorldFault → (W.seen world.new).stops ≡ (W.seen world.old).stops }
+    ensures fault { result ≡ WorkerEnd.WorldFault → Rose (W.seen world.old).waits_failed (W.seen world.new).waits_failed }
+{
+    for _ in rt.forever() {
+        let Ok(()) = worker.turn(rt, alloc, world, shared) else {
+            worker.quit_all(alloc, world);
+            return WorkerEnd::Memory;
+        };
+        if world.stop_asked() {
+            return finish(alloc, worker, world, WorkerEnd::Stopped);
+        }
+        if let Err(_) = world.wait(rt, u64::MAX) {
+            return finish(alloc, worker, world, WorkerEnd::WorldFault);
+        }
+    }
+    unreachable!()
+}
+
+// Ends all connections, and answers this end.
+fn finish<W: World>(alloc: Global, worker: &mut Worker, world: &mut W, end: WorkerEnd) -> WorkerEnd
+    requires { IsStopping (W.seen world.old) worker.old.conns }
+    ensures same { result ≢ WorkerEnd.Memory → result ≡ end }
+    ensures runs { (base : Seen) (g : List Plan) → Stopping base (W.seen world.old) → Runs base (W.seen world.old) g worker.old.conns
+        → Runs base (W.seen world.new) g worker.new.conns }
+    ensures unasked { Unasked (W.seen world.old) (W.seen world.new) }
+    ensures ends { EndsOnly (W.seen world.old) (W.seen world.new) worker.old.conns }
+    ensures ended { (k : ℕ) → get worker.new.conns k ≡ None }
+    ensures accounts { (base : Seen) (from to : Desk) → result ≢ WorkerEnd.Memory → Accounts base (W.seen world.old) from to worker.old.conns
+        → Accounts base (W.seen world.new) from to worker.new.conns }
+{
+    if worker.stop_all(alloc, world) { end } else { WorkerEnd::Memory }
+}
