@@ -38,6 +38,19 @@ impl System {
         Ok(())
     }
 
+    /// How many bytes are pending for a link.
+    pub fn pending(&self, link: u32) -> usize
+        ensures { (i : ℕ) (c : ConnOf) → IsConnOf self.now link i c → result ≡ length (pending_on (link == c.client.link) c) }
+    {
+        match self.place_of(link) {
+            Some(place) => {
+                let conn = &self.clients.conns[place];
+                pending_on(conn, link == conn.client.link).len()
+            }
+            None => 0,
+        }
+    }
+
     // The place of the connection of a link on which this may happen.
     fn link_waits(&self, link: u32, shape: BackShape) -> Result<usize, Refused>
         ensures { MatchResult result
