@@ -1,0 +1,4 @@
+pub mod Parted
+pub mod Services
+pub mod Configs
+pub mod Stopped

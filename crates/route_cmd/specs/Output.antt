@@ -12,7 +12,7 @@ use Rattle.dyn_config.specs.declared.merged.Merged.{Merged}
 use Rattle.dyn_config.specs.declared.service.ServiceDef.{ServiceDef}
 use Rattle.file_provider.specs.Files.{IsFileConfig, WasRead as WasFileRead}
 use Rattle.file_provider.specs.declared.config.FileFault.{FileFault}
-use Rattle.file_provider.specs.declared.config.FileFault.TheVariants as file
+use Rattle.file_provider.specs.declared.config.FileFault.TheVariants as file_fault
 use Rattle.fault_text.specs.Files.{file_fault_text}
 use Rattle.http_wire.specs.declared.requests.HeadFault.{HeadFault}
 use Rattle.http_wire.specs.declared.requests.HeadFault.TheVariants as fault
@@ -102,9 +102,9 @@ pub record IsConfigured (file : Option (List ℕ)) (m : Merged) : Type 0 where
 -- `old` and `new` are what the shop counted before and after.
 pub data RouteOutput (entry : List ℕ) (peer : Ip) (old new : ℕ) (file input : Option (List ℕ)) (status : ℕ) (text : List ℕ) : Type 0 where
   long_file : IsOver file file_limit → status ≡ 8 → text ≡ line (codes "too long") → RouteOutput entry peer old new file input status text
-  refused_file : (bytes : List ℕ) (f : FileFault) → WasFileRead file bytes → IsFileConfig bytes (Err f) → f ≢ file.Memory
+  refused_file : (bytes : List ℕ) (f : FileFault) → WasFileRead file bytes → IsFileConfig bytes (Err f) → f ≢ file_fault.Memory
       → status ≡ 3 → text ≡ line (file_fault_text f) → RouteOutput entry peer old new file input status text
-  later : (m : Merged) → IsConfigured file m → ¬ (IsFirstForm m) → status ≡ 3 → text ≡ line (codes "config Later")
+  config_later : (m : Merged) → IsConfigured file m → ¬ (IsFirstForm m) → status ≡ 3 → text ≡ line (codes "config Later")
       → RouteOutput entry peer old new file input status text
   configured : (m : Merged) (rows : List Row) → IsConfigured file m → IsFirstForm m → AreRoutes m rows → Refuses old new rows
       → InputOutput m rows entry peer input status text → RouteOutput entry peer old new file input status text

@@ -104,7 +104,7 @@ fn query_of(query: &Option<Bytes>) -> &[u8]
 {
     match query {
         Some(query) => query.as_slice(),
-        None => b"",
+        None => b"".as_slice(),
     }
 }
 
@@ -127,7 +127,7 @@ fn has_body(framing: Framing) -> bool
 fn is_head(method: &[u8]) -> bool
     ensures { IsTrue result ↔ (method.now ≡ codes "HEAD") }
 {
-    method == b"HEAD"
+    method == b"HEAD".as_slice()
 }
 
 // Whether a line has this name.

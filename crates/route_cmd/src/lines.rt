@@ -67,7 +67,10 @@ fn service_of<'a>(services: &'a [Entry<ServiceDef>], row: &Row) -> Option<&'a En
     }
 }
 
-fn service_named<'a>(services: &'a [Entry<ServiceDef>], name: &[u8]) -> Option<&'a Entry<ServiceDef>>
+fn service_named<'a>(
+    services: &'a [Entry<ServiceDef>],
+    name: &[u8],
+) -> Option<&'a Entry<ServiceDef>>
     ensures { MatchOption result
         (¬ (Any (λ (e : EntryOf Def). e.name ≡ name.now) services.now))
         (λ e. Contains services.now e.now × (e.now.name ≡ name.now)) }

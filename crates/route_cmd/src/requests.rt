@@ -1,5 +1,5 @@
 //! The answer to an input.
-ghost use Rattle.std.specs.Prelude.{◌≡◌, ◌≢◌, true, IfOk, IfErr, OnOk};
+ghost use Rattle.std.specs.Prelude.{◌≡◌, ◌≢◌, true, IfOk, IfErr};
 ghost use Rattle.px_base.specs.Bytes.{Rose};
 ghost use Rattle.service_graph.specs.Only.{IsFirstForm};
 ghost use Rattle.route_cmd.specs.Routes.{AreRoutes};

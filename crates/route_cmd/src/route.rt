@@ -1,5 +1,5 @@
 //! The command.
-ghost use Rattle.std.specs.Prelude.{◌≡◌, ◌≢◌, ℕ, List, Option, Ok, Err, ⊤, true, IfOk, IfErr, OnOk};
+ghost use Rattle.std.specs.Prelude.{◌≡◌, ◌≢◌, ℕ, List, Option, Ok, true, IsTrue, ◌↔◌, IfOk, IfErr};
 ghost use Rattle.px_base.specs.Bytes.{Rose};
 ghost use Rattle.file_provider.specs.Files.{IsFileConfig, WasRead as WasFileRead};
 ghost use Rattle.file_provider.specs.declared.config.FileFault.TheVariants.{Memory as NoMemory};
@@ -45,21 +45,38 @@ pub fn answer_route<C: Source, Q: Source, S: PatternShop>(
 {
     match poll_file(alloc, config) {
         Ok(config) => answer_config(alloc, entry, peer, config, input, shop),
-        Err(PollFault::File(FileFault::Memory)) => Err(Stop::Memory),
-        Err(PollFault::File(fault)) => Ok(fault_answer(alloc, &fault)?),
+        Err(PollFault::File(fault)) => fault_answer(alloc, &fault),
         Err(PollFault::ReadFault) => Err(Stop::File),
         Err(PollFault::TooLong) => Ok(make_answer(alloc, 8, b"too long\n")?),
         Err(PollFault::Memory) => Err(Stop::Memory),
     }
 }
 
-fn fault_answer(alloc: Global, fault: &FileFault) -> Result<Answer, Memory>
-    ensures { IfOk result (λ a. (a.status ≡ 3) × (a.text.items ≡ line (file_fault_text fault.now))) }
+// The answer to a file that is no configuration.
+fn fault_answer(alloc: Global, fault: &FileFault) -> Result<Answer, Stop>
+    ensures told { IfOk result (λ a. (a.status ≡ 3) × (a.text.items ≡ line (file_fault_text fault.now)) × (fault.now ≢ NoMemory)) }
+    ensures stop { IfErr result (λ stop. stop ≡ Stop.Memory) }
+{
+    if wants_memory(fault) {
+        return Err(Stop::Memory);
+    }
+    let text = fault_line(alloc, fault)?;
+    Ok(Answer { status: 3, text })
+}
+
+fn wants_memory(fault: &FileFault) -> bool
+    ensures { IsTrue result ↔ (fault.now ≡ NoMemory) }
+{
+    matches!(fault, FileFault::Memory)
+}
+
+fn fault_line(alloc: Global, fault: &FileFault) -> Result<Vec<u8>, Memory>
+    ensures { IfOk result (λ text. text.items ≡ line (file_fault_text fault.now)) }
 {
     let mut text = Vec::new(alloc);
     push_file_fault(fault, &mut text)?;
     text.extend_from_slice(b"\n")?;
-    Ok(Answer { status: 3, text })
+    Ok(text)
 }
 
 // The answer under a configuration.

@@ -7,8 +7,8 @@ ghost use Rattle.dyn_config.specs.declared.config.Config.{Config as Given};
 ghost use Rattle.route_cmd.specs.Routes.{IsEmpty, IsFileAlone, AreRoutes, Refuses, is_usable as may_be_used, usable_names as names_of_usable, name_of};
 
 use dyn_config::{Config, Entry, Merged, ServiceDef};
-use px_base::{Bytes, List, Memory};
 use provider_merge::merge;
+use px_base::{Bytes, List, Memory};
 use router_table::{Table, build_table};
 use rule_eval::PatternShop;
 use std::alloc::Global;

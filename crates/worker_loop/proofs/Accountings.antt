@@ -1,5 +1,5 @@
 -- Each pin is accounted for.
-use Rattle.std.proofs.Common.{◌≡◌, ◌≢◌, ◌⊎◌, ℕ, ◌+◌, ◌≤◌, List, [], ◌∷◌, ◌++◌, map, length, Option, Some, None, refl, sym, ◌∙◌, ap, subst, inl, inr, arith, true, false, Bool, length-append}
+use Rattle.std.proofs.Common.{◌≡◌, ◌≢◌, ℕ, ◌+◌, List, [], ◌∷◌, ◌++◌, map, length, Option, Some, None, refl, sym, ◌∙◌, ap, subst, inl, inr, arith, true, false, Bool, length-append}
 use Rattle.std.specs.Prelude.{◌==◌, Result, Ok, Err, IsOk, OnOk}
 use Rattle.std.specs.List.{flat_map}
 use Rattle.std.proofs.lemmas.Bool.{cases_eq}
@@ -16,7 +16,7 @@ use Rattle.link_world.specs.Lately.{Lately}
 use Rattle.conversation.specs.Plans.{Plan}
 use Rattle.conversation.specs.Steps.{Step, history, pins, pins_by, IsNew}
 use Rattle.conversation.specs.Turns.{Turn}
-use Rattle.conversation.specs.Served.{of_all, of_last, pin_of, notes_of}
+use Rattle.conversation.specs.Served.{of_last, pin_of, notes_of}
 use Rattle.desk.specs.Desks.{Desk}
 use Rattle.conn_machine.specs.Parts.{Trail, TiedBy, AtStage}
 use Rattle.conn_machine.specs.Reached.{Reached, PhaseHolds, IsTold, IsFinished, ending_note, closed_by, trail_of, pending_of}
@@ -69,7 +69,7 @@ pins_noted {steps} {c} r none =
     let k = r.kept in
     let link = c.client.link in
     let told : notes (history link steps) ≡ (flat_map (notes_of link) r.done ++ closed_by c.current.pinned link r.last) ++ ending_note link c.phase =
-        sym (append-nil (notes (history link steps))) ∙ ap (λ (ns : List Note). notes (history link steps) ++ ns) (sym none) ∙ k.holds.noted in
+    sym (append-nil (notes (history link steps))) ∙ ap (λ (ns : List Note). notes (history link steps) ++ ns) (sym none) ∙ k.holds.noted in
     ap (λ (ns : List ℕ). ns ++ open_number c)
     (ap (flat_map number_of) told
     ∙ flat_map-append number_of (flat_map (notes_of link) r.done ++ closed_by c.current.pinned link r.last) (ending_note link c.phase)
@@ -259,6 +259,7 @@ accounts_over {S} {base} {now} {new} {l} {m} {from} {f} {g} {c} {d} {steps} conn
     told_open Broken steps x done last rest left next told h = absurd told
     told_open (Over cause) steps x done last rest left next told h = absurd told
     told_open (Told cause) steps x done last rest left next told h = h.0
+
     over_number : (x : Conn) {steps : List Step} → Reached steps x → IsTold x.phase → open_number x ≡ []
     over_number x {steps} r told = ap (λ (b : Bool). number_if b x.current.number) (told_open x.phase steps x r.done r.last r.rest r.left r.kept.next told r.phase)
 

@@ -1,18 +1,17 @@
 -- A worker's run over arrivals, the clock, waits and stops, and when it is settled.
-use Rattle.std.proofs.Common.{◌≡◌, ◌≢◌, ◌⊎◌, ℕ, ◌+◌, ◌<◌, ◌≤◌, List, [], ◌∷◌, ◌++◌, Option, Some, None, refl, zero, suc, length, get_or, sym, ◌∙◌, ap, subst, inl, inr, arith, true, false, Bool}
-use Rattle.std.specs.Prelude.{IfSome, ◌==◌, Result, Ok, Err}
-use Rattle.std.specs.List.{AllByRecursion, Contains, flat_map}
+use Rattle.std.proofs.Common.{◌≡◌, ◌≢◌, ℕ, ◌<◌, ◌≤◌, List, [], ◌∷◌, ◌++◌, Option, Some, None, refl, sym, ◌∙◌, ap, subst, inl, inr, arith, true, false, Bool}
+use Rattle.std.specs.Prelude.{IfSome, ◌==◌, Ok, Err}
+use Rattle.std.specs.List.{Contains, flat_map}
 use Rattle.std.proofs.lemmas.Bool.{cases_eq, cases_lt}
 use Rattle.std.proofs.lemmas.Bool.Decides.{nat_tests}
-use Rattle.std.proofs.lemmas.List.{append_assoc, append-nil}
+use Rattle.std.proofs.lemmas.List.{append-nil}
 use Rattle.ip_net.specs.declared.ip.Ip.{Ip}
 use Rattle.slab.specs.Slab.{Slab, get}
 use Rattle.link_world.specs.declared.note.Note.{Note}
-use Rattle.link_world.specs.declared.note.EndCause.{EndCause}
 use Rattle.link_world.specs.declared.world.Arrival.{Arrival}
 use Rattle.link_world.specs.declared.world.WaitFailed.{WaitFailed}
-use Rattle.link_world.specs.Log.{Event, LinkEvent, came, waited, clock, on, closed, stop, IsFresh, is_of, only_if, happening, history_of, notes}
-use Rattle.link_world.specs.Seen.{Seen, with_event, Rose, Came, Closed, CloseDid, NowDid, StopDid, WaitDid}
+use Rattle.link_world.specs.Log.{Event, LinkEvent, came, waited, clock, on, closed, stop, IsFresh, only_if, happening, history_of, notes}
+use Rattle.link_world.specs.Seen.{Seen, Rose, Came, Closed, CloseDid, NowDid, StopDid, WaitDid}
 use Rattle.link_world.specs.Lately.{Lately, SameAt}
 use Rattle.conversation.specs.Plans.{Plan}
 use Rattle.desk.specs.Desks.{Desk}
@@ -21,16 +20,15 @@ use Rattle.conversation.specs.Served.{end_note, of_all, pin_of, notes_of}
 use Rattle.conversation.specs.Turns.{Turn}
 use Rattle.conn_machine.specs.Reached.{ending_note, closed_by}
 use Rattle.conn_machine.specs.declared.conn.Conn.{Conn}
-use Rattle.conn_service.specs.Moments.{Stands, IsElse, IsExchanging, IsHeld, moment}
-use Rattle.conn_service.specs.Pins.{IsBelow}
+use Rattle.conn_service.specs.Moments.{Stands, IsElse, IsExchanging, moment}
 use Rattle.conn_service.specs.Went.{Went, Lost, extended}
 use Rattle.conn_service.specs.Calm.{Calm}
 use Rattle.conn_service.proofs.Calms.{calm_kept}
 use Rattle.worker_loop.specs.Owned.{Shows, HaveCome, Tracks}
-use Rattle.worker_loop.specs.Runs.{AttendsBy, Runs, Stopping, Began, IsOver, Unasked}
+use Rattle.worker_loop.specs.Runs.{AttendsBy, Runs, Stopping, Began, Unasked}
 use Rattle.worker_loop.specs.Settled.{SettledUnder, AllSettled, SameTurn, TurnDone, EndsOnly, StoppedAfter}
-use Rattle.worker_loop.proofs.Lists.{contains_none, extended_twice, extended_none, told_step, told_all, history_quiet, history-append, new_none, grew_none}
-use Rattle.worker_loop.proofs.Frames.{history_fresh, Passed, Grows, client_told, back_told, has_come, no_more_told, rose_after}
+use Rattle.worker_loop.proofs.Lists.{contains_none, extended_twice, extended_none, told_step, told_all, history-append, grew_none}
+use Rattle.worker_loop.proofs.Frames.{history_fresh, Passed, client_told, back_told, has_come, no_more_told, rose_after}
 use Rattle.worker_loop.proofs.Servings.{unowned, Others, Here, step_at, step_quiet, step_same}
 
 other_link : {l link : ℕ} → l ≢ link → (l == link) ≡ false
@@ -76,7 +74,7 @@ first_shows {now} {new} a arrival =
       | inl same ↦
           let none : history_of l log ≡ [] = ap (λ (m : ℕ). history_of m log) same ∙ history_fresh a.link log fresh in
           let whole : history_of l (log ++ on a.link (came a.entry a.peer) ∷ []) ≡ history_of l (on a.link (came a.entry a.peer) ∷ []) =
-              history-append l log (on a.link (came a.entry a.peer) ∷ []) ∙ ap (λ (h : List LinkEvent). h ++ history_of l (on a.link (came a.entry a.peer) ∷ [])) none in
+          history-append l log (on a.link (came a.entry a.peer) ∷ []) ∙ ap (λ (h : List LinkEvent). h ++ history_of l (on a.link (came a.entry a.peer) ∷ [])) none in
           inr (sym whole)
     ]
 
@@ -107,9 +105,11 @@ began_untold {a} {d} began =
   where
     waits_none : (told waiting : List Note) → told ≡ [] → told ++ waiting ≡ [] → waiting ≡ []
     waits_none told waiting is e = ap (λ (ns : List Note). ns ++ waiting) (sym is) ∙ e
+
     mute : (b : Bool) → notes (only_if b (came a.entry a.peer ∷ []) ++ []) ≡ []
     mute true = refl
     mute false = refl
+
     closed_none : (b : Bool) (link : ℕ) → closed_by b link None ≡ []
     closed_none true link = refl
     closed_none false link = refl
@@ -124,8 +124,10 @@ step_accept {base} {now} {new} {g} a d conns conns' key arrival began gd others 
   where
     have : HaveCome new (first_steps a)
     have l not = first_new a l (λ same. let here = arrival.come in let e : new.come a.link ≡ false = ap new.come (sym same) ∙ not in let f : ⊥ = cc in f)
+
     idle : IsExchanging d → ⊥
     idle at = let x = at.stage in let y = began.waits.stage in cc
+
     tracks : Tracks new g (first_steps a) d
     tracks = record {
       stands = record { reached = began.reached; fresh = have };
@@ -153,8 +155,10 @@ step_away {base} {now} {mid} {new} {g} {conns} a arrival did r = step_quiet pass
   where
     shut : Closed mid a.link new
     shut = did.0 arrival.is_open
+
     at : LinkEvent
     at = came a.entry a.peer
+
     passed : Passed now new (on a.link (came a.entry a.peer) ∷ closed a.link ∷ []) []
     passed = record {
       log = ap (λ (s : Seen). s.log) shut.same ∙ ap (λ (o : Option (List Event)). extended o (closed a.link ∷ [])) (ap (λ (s : Seen). s.log) arrival.same) ∙ extended_twice now.log (on a.link (came a.entry a.peer) ∷ []) (closed a.link ∷ []);
@@ -168,6 +172,7 @@ step_away {base} {now} {mid} {new} {g} {conns} a arrival did r = step_quiet pass
       stops = let x : new.stops ≡ now.stops = ap (λ (s : Seen). s.stops) shut.same ∙ ap (λ (s : Seen). s.stops) arrival.same in omega (arith, x);
       waits = let x : new.waits_failed ≡ now.waits_failed = ap (λ (s : Seen). s.waits_failed) shut.same ∙ ap (λ (s : Seen). s.waits_failed) arrival.same in omega (arith, x);
     }
+
     mute : (l : ℕ) → notes (history_of l (on a.link (came a.entry a.peer) ∷ closed a.link ∷ [])) ≡ []
     mute l = came_mute l a.link a.entry a.peer
 
@@ -211,9 +216,9 @@ pub step_stop : {base now new : Seen} {g : List Plan} {conns : Slab Conn} → St
 step_stop {base} {now} {new} {g} {conns} (n, more, is) r =
     let rose : Rose now.stops new.stops = subst (λ (s : Seen). Rose now.stops s.stops) (sym is) more in (
       step_quiet
-      (idle_passed stop now new (λ l. refl) (ap (λ (s : Seen). s.log) is) (ap (λ (s : Seen). s.come) is) (ap (λ (s : Seen). s.is_open) is) (ap (λ (s : Seen). s.faults) is)
-      rose.0 (let same : new.waits_failed ≡ now.waits_failed = ap (λ (s : Seen). s.waits_failed) is in omega (arith, same)))
-      (λ l. refl) r,
+          (idle_passed stop now new (λ l. refl) (ap (λ (s : Seen). s.log) is) (ap (λ (s : Seen). s.come) is) (ap (λ (s : Seen). s.is_open) is) (ap (λ (s : Seen). s.faults) is)
+          rose.0 (let same : new.waits_failed ≡ now.waits_failed = ap (λ (s : Seen). s.waits_failed) is in omega (arith, same)))
+          (λ l. refl) r,
       inl (rose_after r.stops rose),
     )
 

@@ -1,18 +1,17 @@
 -- What happened on some links, seen by those to whom it wasn't told.
-use Rattle.std.proofs.Common.{◌≡◌, ◌≢◌, ◌⊎◌, ℕ, ◌<◌, ◌≤◌, List, [], ◌∷◌, ◌++◌, Option, Some, None, refl, sym, ◌∙◌, ap, subst, inl, inr, arith, true, false, Bool}
+use Rattle.std.proofs.Common.{◌≡◌, ◌≢◌, ℕ, ◌≤◌, List, [], ◌∷◌, ◌++◌, Option, Some, None, refl, sym, ◌∙◌, ap, subst, inl, inr, arith, true, false, Bool}
 use Rattle.std.specs.Prelude.{IfSome, ◌==◌, if◌then◌else◌}
-use Rattle.std.specs.List.{AllByRecursion, Contains}
+use Rattle.std.specs.List.{AllByRecursion}
 use Rattle.std.proofs.lemmas.Bool.{cases_eq}
 use Rattle.std.proofs.lemmas.Bool.Decides.{nat_tests}
 use Rattle.std.proofs.lemmas.List.{append-nil}
-use Rattle.std.proofs.lemmas.List.Elements.{Contains-append_left}
 use Rattle.ip_net.specs.declared.ip.Ip.{Ip}
-use Rattle.link_world.specs.Log.{Event, LinkEvent, came, waited, clock, on, closed, stop, IsFresh, is_of, only_if, happening, history_of}
+use Rattle.link_world.specs.Log.{Event, LinkEvent, waited, clock, on, closed, stop, IsFresh, is_of, only_if, happening, history_of}
 use Rattle.link_world.specs.Seen.{Seen, Rose}
 use Rattle.link_world.specs.declared.note.EndCause.{EndCause}
 use Rattle.link_world.specs.declared.note.EndCause.TheVariants.{Client, ClientFailed, Asked, Refused, Unread, Idle, Count, Cut, CutLate, Stopped, Memory}
 use Rattle.conversation.specs.Plans.{Plan}
-use Rattle.conversation.specs.Steps.{Step, history, failures, pins, IsNew}
+use Rattle.conversation.specs.Steps.{Step, history, pins, IsNew}
 use Rattle.conversation.specs.Turns.{Turn, BackLink, IsLinkTold}
 use Rattle.conversation.specs.Served.{Served, EndHolds, IfLast, IsAnswered}
 use Rattle.conn_machine.specs.Reached.{Reached, PhaseHolds, pending_of}
@@ -24,11 +23,10 @@ use Rattle.conn_machine.specs.declared.parts.Phase.{Phase}
 use Rattle.conn_machine.specs.declared.parts.Phase.TheVariants.{Open}
 use Rattle.desk.specs.Desks.{Grew}
 use Rattle.conn_service.specs.Went.{extended}
-use Rattle.conn_service.specs.Moments.{IsReady, IsExchanging}
 use Rattle.conn_service.specs.Pins.{IsBelow}
 use Rattle.worker_loop.specs.Owned.{AreApart, Shows, AreCounted, HaveCome, Tracks, put}
 use Rattle.worker_loop.specs.Runs.{Stopping, IsServed, IsOver}
-use Rattle.worker_loop.proofs.Lists.{true_or_false, all_weaker, told_step, history_quiet, new_none, grew_all}
+use Rattle.worker_loop.proofs.Lists.{true_or_false, told_step, history_quiet, new_none, grew_all}
 
 pub history_fresh : (link : ℕ) (log : List Event) → IsFresh link log → history_of link log ≡ []
 history_fresh link [] h = refl
@@ -52,7 +50,7 @@ pub record Passed (now new : Seen) (ran : List Event) (mine : List Step) : Type 
   pub waits : now.waits_failed ≤ new.waits_failed
 
 pub apart_sym : {a b : List Step} → AreApart a b → AreApart b a
-apart_sym apart l = elim (apart l) [ | inl q ↦ inr q | inr q ↦ inl q ]
+apart_sym apart l = elim (apart l) [ inl q ↦ inr q | inr q ↦ inl q ]
 
 pub apart_none : {a : List Step} → AreApart a []
 apart_none l = inr new_none
@@ -74,10 +72,10 @@ have_come p h l not = h l (come_before p l not)
 
 -- a link of which the steps tell has come
 pub has_come : (now : Seen) {steps : List Step} (l : ℕ) → HaveCome now steps → (IsNew l steps → ⊥) → now.come l ≡ true
-has_come now l h told = elim (true_or_false (now.come l)) [ | inl is ↦ is | inr not ↦ absurd (told (h l not)) ]
+has_come now l h told = elim (true_or_false (now.come l)) [ inl is ↦ is | inr not ↦ absurd (told (h l not)) ]
 
 pub no_more_told : {mine other : List Step} (l : ℕ) → AreApart other mine → (IsNew l other → ⊥) → IsNew l mine
-no_more_told l apart told = elim (apart l) [ | inl q ↦ absurd (told q) | inr q ↦ q ]
+no_more_told l apart told = elim (apart l) [ inl q ↦ absurd (told q) | inr q ↦ q ]
 
 -- what others were told is all that the longer log tells
 pub shows_kept : {now new : Seen} {ran : List Event} {mine other : List Step} → Passed now new ran mine → HaveCome now other → AreApart other mine → (log : List Event) → Shows other log → Shows other (log ++ ran)
@@ -226,7 +224,7 @@ Grows now mine next = (l : ℕ) → now.come l ≡ true → IsNew l mine → IsN
 pub apart_next : (now : Seen) {mine next other : List Step} → Grows now mine next → HaveCome now other → AreApart other mine → AreApart other next
 apart_next now grows h apart l = elim (true_or_false (now.come l)) [
   | inr not ↦ inl (h l not)
-  | inl is ↦ elim (apart l) [ | inl q ↦ inl q | inr q ↦ inr (grows l is q) ]
+  | inl is ↦ elim (apart l) [ inl q ↦ inl q | inr q ↦ inr (grows l is q) ]
 ]
 
 -- and its links stay no others'

@@ -1,5 +1,5 @@
 -- What a worker keeps over its run.
-use Rattle.std.specs.Prelude.{◌≡◌, ◌≢◌, ◌⊎◌, ℕ, ◌<◌, ◌≤◌, List, [], ◌∷◌, ◌++◌, Option, Some, IfSome}
+use Rattle.std.specs.Prelude.{◌≡◌, ◌≢◌, ◌⊎◌, ℕ, ◌<◌, ◌≤◌, List, [], ◌∷◌, ◌++◌, Some, IfSome}
 use Rattle.std.specs.List.{Contains}
 use Rattle.ip_net.specs.declared.ip.Ip.{Ip}
 use Rattle.slab.specs.Slab.{Slab, get}

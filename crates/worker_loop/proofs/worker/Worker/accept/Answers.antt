@@ -1,11 +1,9 @@
-use Rattle.std.proofs.Common.{◌≡◌, ◌≢◌, ℕ, ap, sym, ◌∙◌, refl, true, false, Ok, Some, None}
+use Rattle.std.proofs.Common.{◌≡◌, ℕ, ap, sym, ◌∙◌}
 use Rattle.slab.specs.Slab.{Slab, get}
 use Rattle.conn_machine.specs.declared.conn.Conn.{Conn}
-use Rattle.link_world.specs.Lately.{Lately}
-use Rattle.link_world.specs.Seen.{Seen}
 use Rattle.worker_loop.proofs.Servings.{step_kept, step_same}
 use Rattle.worker_loop.proofs.Accountings.{accounts_same, accounts_kept, accounts_accept}
-use Rattle.worker_loop.proofs.Comings.{step_accept, step_away, came_stops, away_stops, settled_same, links_after, links_equal}
+use Rattle.worker_loop.proofs.Comings.{step_accept, step_away, settled_same, links_after, links_equal}
 use Rattle.worker_loop.proofs.worker.Worker.accept.Goals as goal
 
 pub returns-in_err-reserve-clause-runs : goal.returns-in_err-reserve-clause-runs

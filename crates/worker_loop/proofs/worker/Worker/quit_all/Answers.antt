@@ -1,4 +1,4 @@
-use Rattle.std.proofs.Common.{rules, arith}
+use Rattle.std.proofs.Common.{arith}
 use Rattle.worker_loop.proofs.Servings.{runs_none, runs_attends, gone_next, gone_past, gone_all, past_slots}
 use Rattle.worker_loop.proofs.worker.Worker.quit_all.Goals as goal
 

@@ -1,4 +1,4 @@
-use Rattle.std.proofs.Common.{rules, sym}
+use Rattle.std.proofs.Common.{sym}
 use Rattle.worker_loop.proofs.Servings.{step_over, step_lost, desk_of, moved, strayed}
 use Rattle.worker_loop.proofs.worker.Worker.quit_key.Goals as goal
 

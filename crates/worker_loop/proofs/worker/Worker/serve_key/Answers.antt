@@ -1,4 +1,4 @@
-use Rattle.std.proofs.Common.{rules, ◌≡◌, ◌≢◌, ℕ, Some, sym, ◌∙◌, ap, refl, ⊎_elim}
+use Rattle.std.proofs.Common.{rules, ◌≡◌, sym, ◌∙◌, ap, refl}
 use Rattle.slab.specs.Slab.{get}
 use Rattle.worker_loop.proofs.Servings.{step_open, step_over, step_lost, lost_stops, unfinished, moved, strayed}
 use Rattle.worker_loop.proofs.Accountings.{accounts_open, accounts_over}

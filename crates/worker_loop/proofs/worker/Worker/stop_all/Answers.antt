@@ -1,4 +1,4 @@
-use Rattle.std.proofs.Common.{rules, arith, refl}
+use Rattle.std.proofs.Common.{arith, refl}
 use Rattle.worker_loop.proofs.Servings.{unasked_then, unasked_none, gone_next, gone_past, gone_all, past_slots, ends_none, ends_then, within_kept, above_next}
 use Rattle.worker_loop.proofs.Accountings.{on_ok}
 use Rattle.worker_loop.proofs.worker.Worker.stop_all.Goals as goal

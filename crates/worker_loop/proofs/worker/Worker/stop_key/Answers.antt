@@ -1,4 +1,4 @@
-use Rattle.std.proofs.Common.{rules, sym, [], refl, arith}
+use Rattle.std.proofs.Common.{sym, []}
 use Rattle.worker_loop.proofs.Servings.{step_over, step_lost, stopping_kept, stopping_lost, desk_of, moved, strayed, unasked_went, unasked_lost, ends_went, ends_lost, ends_none}
 use Rattle.worker_loop.proofs.Accountings.{accounts_over}
 use Rattle.worker_loop.proofs.worker.Worker.stop_key.Goals as goal

@@ -1,4 +1,4 @@
-use Rattle.std.proofs.Common.{◌≡◌, ◌≢◌, ℕ, ap, sym, ◌∙◌, refl, inl, inr, arith, rules}
+use Rattle.std.proofs.Common.{ap, ◌∙◌, inl, arith, rules}
 use Rattle.link_world.specs.Lately.{Lately}
 use Rattle.worker_loop.proofs.Servings.{runs_none, runs_attends}
 use Rattle.worker_loop.proofs.Accountings.{accounts_clock}
@@ -19,7 +19,6 @@ loop-init g c = (tt, tt, λ base r. c.serve_all.ensures.runs base (step_clock c.
 
 pub welcome-requires : goal.welcome-requires
 welcome-requires g c = runs_attends (c.loop.invariant.2 _ (runs_none _ _ _ c.requires))
-
 
 pub returns-then-not-branch-clause-done : goal.returns-then-not-branch-clause-done
 returns-then-not-branch-clause-done g c = record {
