@@ -1,0 +1,9 @@
+pub mod Places
+pub mod Tellings
+pub mod LinkLemmas
+pub mod Telling
+pub mod Ends
+pub mod Driving
+pub mod Saying
+pub mod Choosing
+pub mod Coming
