@@ -1,5 +1,5 @@
-use Rattle.std.proofs.Common.{◌≡◌, ℕ, rules, sym, ◌∙◌, refl, arith, subst, ap}
-use Rattle.link_world.specs.Seen.{Rose, Seen}
+use Rattle.std.proofs.Common.{ℕ, sym, ◌∙◌, refl, subst, ap}
+use Rattle.link_world.specs.Seen.{Seen}
 use Rattle.conn_service.proofs.Lists.{grew_none, grew_twice}
 use Rattle.worker_loop.proofs.Servings.{runs_none, runs_attends, run_served, step_same}
 use Rattle.worker_loop.proofs.Accountings.{accounts_same, accounts_wait, accounts_failed, accounts_stop}

@@ -1,4 +1,4 @@
-use Rattle.std.proofs.Common.{◌≡◌, ◌≢◌, ℕ, ap, sym, ◌∙◌, refl, arith, rules}
+use Rattle.std.proofs.Common.{◌∙◌, refl, arith}
 use Rattle.conn_service.proofs.Lists.{grew_none, grew_twice}
 use Rattle.worker_loop.proofs.Servings.{runs_none, runs_attends, past_slots}
 use Rattle.worker_loop.proofs.Comings.{all_settled}

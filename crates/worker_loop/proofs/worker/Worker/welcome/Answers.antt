@@ -1,4 +1,3 @@
-use Rattle.std.proofs.Common.{◌≡◌, ◌≢◌, ℕ, ap, sym, ◌∙◌, refl, arith, rules}
 use Rattle.conn_service.proofs.Lists.{grew_none}
 use Rattle.worker_loop.proofs.Servings.{runs_none, runs_attends}
 use Rattle.worker_loop.proofs.worker.Worker.welcome.Goals as goal
