@@ -13,7 +13,10 @@ use px_base::{Bytes, Memory, Sink};
 use rule_eval::PatternShop;
 use std::alloc::Global;
 use std::sync::Wait;
-use worker_loop::{MOST_LINKS, Worker, WorkerEnd, run_worker};
+use worker_loop::{Worker, WorkerEnd, run_worker};
+
+/// The most client links of a worker at a time. More wait until one of these is closed.
+const CLIENT_LINKS: u32 = 256;
 
 /// What came of a call.
 #[derive(Clone, Copy, Debug, PartialEq, Eq)]
@@ -111,6 +114,6 @@ fn run_first<R: Wait, W: World>(
     ensures served { IfOk result (Served (desk_of desk.old).generations (W.seen world.old) (W.seen world.new)) }
     ensures idle { OnErr result (W.seen world.new ≡ W.seen world.old) }
 {
-    let mut worker = Worker::new(alloc, MOST_LINKS)?;
+    let mut worker = Worker::new(alloc, CLIENT_LINKS)?;
     Ok(run_worker(rt, alloc, &mut worker, world, desk))
 }
