@@ -25,7 +25,7 @@ use Rattle.link_world.specs.declared.note.Cause.TheVariants as causes
 use Rattle.link_world.specs.declared.note.HeadName.TheVariants as name
 use Rattle.conversation.specs.Asks.{asks, faulty, unserved, broken, large, IsHead, IsServed, IsItem, Makes, fields_of, name_of, judged, query_bytes}
 use Rattle.conversation.specs.Plans.{IsWinner}
-use Rattle.rule_eval.specs.Truth.{Asked, asked_of}
+use Rattle.rule_eval.specs.Truth.{Asked as Judged, asked_of}
 use Rattle.generation.specs.Meaning.{plan_of}
 use Rattle.generation.specs.declared.generation.Generation.{Generation}
 use Rattle.conn_machine.specs.Parts.{Fits, IsFound, FindsRow}
@@ -128,7 +128,7 @@ pub found_row : (g : Generation) (item entry : List ℕ) (peer : Ip) (r : HttpRe
     → ((h : RequestHead) → IsHead item h → judged h r ≡ asked_of v)
     → IfOk row (IsWinner (plan_of g) entry (asked_of v) peer)
     → IfOk row (FindsRow (plan_of g) item entry peer r)
-found_row g item entry peer r v (Ok row) same is = λ h head. subst (λ (a : Asked). IsWinner (plan_of g) entry a peer row) (sym (same h head)) is
+found_row g item entry peer r v (Ok row) same is = λ h head. subst (λ (a : Judged). IsWinner (plan_of g) entry a peer row) (sym (same h head)) is
 found_row g item entry peer r v (Err e) same is = tt
 
 -- the same at equal parts

@@ -2,7 +2,7 @@
 use crate::{BackEvent, Conn, ConnEvent};
 use generation::{Generation, one_router};
 use ip_net::Ip;
-use link_world::{Look, NodePick, note_text};
+use link_world::{Look, NodePick, Note, note_text};
 use std::alloc::Global;
 use std::process::Abort;
 use std::sync::Arc;
@@ -15,17 +15,15 @@ enum Act {
     Gives(&'static [u8]),
     Ends,
     Fails,
+    Takes(&'static [u8]),
     // A configuration with one router, or without.
     Pins,
     PinsNone,
     Looks(u64),
     Draws,
     Dials,
+    Server(BackEvent<'static>),
     ServerTakes(&'static [u8]),
-    ServerGives(&'static [u8]),
-    ServerEnds,
-    ServerFails,
-    Takes(&'static [u8]),
     Stops,
 }
 
@@ -42,49 +40,48 @@ fn configuration(alloc: Global) -> Result<Arc<Generation, Global>, Fail> {
     }
 }
 
-fn event_of(
-    rt: &impl Abort,
-    alloc: Global,
-    conn: &Conn,
-    act: Act,
-) -> Result<ConnEvent<'static>, Fail> {
-    Ok(match act {
-        Act::Gives(piece) => ConnEvent::Bytes(piece),
-        Act::Ends => ConnEvent::End,
-        Act::Fails => ConnEvent::Failed,
-        Act::Pins => ConnEvent::Pinned(configuration(alloc)?),
-        Act::PinsNone => ConnEvent::Pinned(empty(alloc)?),
-        Act::Looks(mask) => ConnEvent::Looked(Look { node: 0, mask }),
-        Act::Draws => ConnEvent::Drew(NodePick {
-            node: 0,
-            pick: Pick {
-                from: 0,
-                to: 1,
-                child: 0,
-            },
-        }),
-        Act::Dials => ConnEvent::Dialled { link: 1 },
-        Act::ServerTakes(text) => {
-            assert_eq!(rt; conn.back_pending(), text);
-            of_server(BackEvent::Took(text.len()))
-        }
-        Act::ServerGives(piece) => of_server(BackEvent::Bytes(piece)),
-        Act::ServerEnds => of_server(BackEvent::End),
-        Act::ServerFails => of_server(BackEvent::Failed),
-        Act::Takes(text) => {
-            assert_eq!(rt; conn.pending(), text);
-            ConnEvent::Took(text.len())
-        }
-        Act::Stops => ConnEvent::Stop,
-    })
+fn event_of(alloc: Global, act: Act) -> Result<ConnEvent<'static>, Fail> {
+    match act {
+        Act::Gives(piece) => Ok(ConnEvent::Bytes(piece)),
+        Act::Ends => Ok(ConnEvent::End),
+        Act::Fails => Ok(ConnEvent::Failed),
+        Act::Takes(text) => Ok(ConnEvent::Took(text.len())),
+        Act::Pins => Ok(ConnEvent::Pinned(configuration(alloc)?)),
+        Act::PinsNone => Ok(ConnEvent::Pinned(empty(alloc)?)),
+        Act::Looks(mask) => Ok(ConnEvent::Looked(Look { node: 0, mask })),
+        Act::Draws => Ok(ConnEvent::Drew(PICK)),
+        Act::Dials => Ok(ConnEvent::Dialled { link: 1 }),
+        Act::Server(event) => Ok(of_server(event)),
+        Act::ServerTakes(text) => Ok(of_server(BackEvent::Took(text.len()))),
+        Act::Stops => Ok(ConnEvent::Stop),
+    }
 }
+
+const PICK: NodePick = NodePick {
+    node: 0,
+    pick: Pick {
+        from: 0,
+        to: 1,
+        child: 0,
+    },
+};
 
 fn of_server(event: BackEvent<'static>) -> ConnEvent<'static> {
     ConnEvent::Back { link: 1, event }
 }
 
+// What is taken is all that is pending.
+fn expect_pending(rt: &impl Abort, conn: &Conn, act: Act) {
+    match act {
+        Act::Takes(text) => assert_eq!(rt; conn.pending(), text),
+        Act::ServerTakes(text) => assert_eq!(rt; conn.back_pending(), text),
+        _ => {}
+    }
+}
+
 fn play(rt: &impl Abort, alloc: Global, conn: &mut Conn, act: Act) -> Result<(), Fail> {
-    let event = event_of(rt, alloc, conn, act)?;
+    expect_pending(rt, conn, act);
+    let event = event_of(alloc, act)?;
     conn.reserve(event.bytes_added())?;
     let comes = conn.enabled(event.shape()) && conn.asked(&event);
     assert!(rt; comes);
@@ -101,13 +98,24 @@ fn play_all(rt: &impl Abort, alloc: Global, conn: &mut Conn, acts: &[Act]) -> Re
     Ok(())
 }
 
+// Appends the text of the next note, where there is one.
+fn push_note(alloc: Global, conn: &mut Conn, text: &mut Vec<u8>) -> Result<(), Fail> {
+    match conn.take_note(alloc) {
+        Some(note) => push_text(alloc, &note, text),
+        None => Ok(()),
+    }
+}
+
+fn push_text(alloc: Global, note: &Note, text: &mut Vec<u8>) -> Result<(), Fail> {
+    note_text(alloc, note, text)?;
+    Ok(())
+}
+
 // What is left to note, as text.
 fn notes_of(alloc: Global, conn: &mut Conn) -> Result<Vec<u8>, Fail> {
     let mut text = Vec::new(alloc);
     for _ in 0..8u32 {
-        if let Some(note) = conn.take_note(alloc) {
-            note_text(alloc, &note, &mut text)?;
-        }
+        push_note(alloc, conn, &mut text)?;
     }
     Ok(text)
 }
@@ -178,7 +186,10 @@ fn not_found(rt: &impl Abort, alloc: Global, at: usize) -> Result<(), Fail> {
 fn passed(rt: &impl Abort, alloc: Global, at: usize) -> Result<(), Fail> {
     let reply = b"HTTP/1.1 200 OK\r\nContent-Length: 2\r\n\r\nok".as_slice();
     let (front, back) = reply.split_at(at.min(reply.len()));
-    let acts = [Act::ServerGives(front), Act::ServerGives(back)];
+    let acts = [
+        Act::Server(BackEvent::Bytes(front)),
+        Act::Server(BackEvent::Bytes(back)),
+    ];
     let text =
         b"note 0 1 gen 1 router 0 status 200 Passed looks 0:1 picks 0:0-1:0 turns - backs 1\nnote 0 end Client\n";
     run(
@@ -246,23 +257,37 @@ fn lost(rt: &impl Abort, alloc: Global) -> Result<(), Fail> {
         b"note 0 1 gen 1 router 0 status 502 BackFailed 1 looks 0:1 picks 0:0-1:0 turns - backs 1\nnote 0 end Client\n".as_slice();
     let bad =
         b"note 0 1 gen 1 router 0 status 502 BackBad 1 looks 0:1 picks 0:0-1:0 turns - backs 1\nnote 0 end Client\n".as_slice();
-    run(rt, alloc, &SENT, &[Act::ServerFails], &BAD_GATEWAY, failed)?;
     run(
         rt,
         alloc,
         &SENT,
-        &[Act::ServerGives(b"\x00")],
+        &[Act::Server(BackEvent::Failed)],
+        &BAD_GATEWAY,
+        failed,
+    )?;
+    run(
+        rt,
+        alloc,
+        &SENT,
+        &[Act::Server(BackEvent::Bytes(b"\x00"))],
         &BAD_GATEWAY,
         bad,
     )?;
-    let acts = [Act::ServerGives(b"HTTP/1.1 200 OK\r\n"), Act::ServerEnds];
+    let acts = [
+        Act::Server(BackEvent::Bytes(b"HTTP/1.1 200 OK\r\n")),
+        Act::Server(BackEvent::End),
+    ];
     run(rt, alloc, &SENT, &acts, &BAD_GATEWAY, bad)
 }
 
 // The link ends inside the content of its reply.
 fn cut(rt: &impl Abort, alloc: Global) -> Result<(), Fail> {
     let piece = b"HTTP/1.1 200 OK\r\nContent-Length: 2\r\n\r\no";
-    let acts = [Act::ServerGives(piece), Act::Takes(piece), Act::ServerEnds];
+    let acts = [
+        Act::Server(BackEvent::Bytes(piece)),
+        Act::Takes(piece),
+        Act::Server(BackEvent::End),
+    ];
     let text =
         b"note 0 1 gen 1 router 0 status 200 Passed looks 0:1 picks 0:0-1:0 turns - backs 1\nnote 0 end Cut 1\n";
     run(rt, alloc, &SENT, &acts, &[], text)

@@ -45,6 +45,7 @@ rests_from {l} {m} {n} {o} {p} {b} {c} {d} {e} {f} standing s read t asked u hea
   where
     in_e : f.stage ≡ stage.Exchange → IsExchanging e
     in_e at = record { phase = sym v.same.phase ∙ opened; stage = sym v.same.stage ∙ at }
+
     in_d : f.stage ≡ stage.Exchange → IsExchanging d
     in_d at = let w = in_e at in record { phase = sym u.same.phase ∙ w.phase; stage = sym u.same.stage ∙ w.stage }
 

@@ -103,11 +103,14 @@ stays_read {l} {m} {c} {d} {link} did same = record {
     quiet : (k : ℕ) → l.read_quiet k ≡ true → (k ≡ link) ⊎ (k ≢ link) → m.read_quiet k ≡ true
     quiet k is (inl at) = subst (λ (n : ℕ). m.read_quiet n ≡ true) (sym at) did.read_quiet
     quiet k is (inr ne) = (did.only.others k ne).read_quiet ∙ is
+
     unwritten : (k : ℕ) → (k ≡ link) ⊎ (k ≢ link) → m.write_quiet k ≡ l.write_quiet k
     unwritten k (inl at) = subst (λ (n : ℕ). m.write_quiet n ≡ l.write_quiet n) (sym at) did.write_quiet
     unwritten k (inr ne) = (did.only.others k ne).write_quiet
+
     up : (n a b : ℕ) → b ≡ min (a + 1) 18446744073709551615 → n ≤ 64 → n ≤ a → n ≤ b
     up n a b is most le = omega (arith, is, most, le)
+
     more : (k n : ℕ) → n ≤ 64 → n ≤ l.reads k → (k ≡ link) ⊎ (k ≢ link) → n ≤ m.reads k
     more k n most le (inl at) = subst (λ (i : ℕ). n ≤ m.reads i) (sym at) (up n (l.reads link) (m.reads link) did.reads most (subst (λ (i : ℕ). n ≤ l.reads i) at le))
     more k n most le (inr ne) = omega (arith, (did.only.others k ne).reads, le)
@@ -124,6 +127,7 @@ stays_write {l} {m} {c} {d} {link} did same = record {
     quiet : (k : ℕ) → l.write_quiet k ≡ true → (k ≡ link) ⊎ (k ≢ link) → m.write_quiet k ≡ true
     quiet k is (inl at) = subst (λ (n : ℕ). m.write_quiet n ≡ true) (sym at) did.write_quiet
     quiet k is (inr ne) = (did.only.others k ne).write_quiet ∙ is
+
     unread : (k : ℕ) → (k ≡ link) ⊎ (k ≢ link) → m.read_quiet k ≡ l.read_quiet k
     unread k (inl at) = subst (λ (n : ℕ). m.read_quiet n ≡ l.read_quiet n) (sym at) did.read_quiet
     unread k (inr ne) = (did.only.others k ne).read_quiet

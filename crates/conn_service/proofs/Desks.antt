@@ -129,8 +129,10 @@ desk_pinned {f} {g} {h} {p} {i} {j} did same is = record {
   where
     grew : Grew f.generations h.generations
     grew = (did.grew.0, same.generations ∙ did.grew.1)
+
     held_in : Contains h.generations p
     held_in = subst (λ (l : List Plan). Contains l p) (sym same.generations) (last_held did.last)
+
     seat : (n : ℕ) → seat_at h n ≡ seat_at f n
     seat n = same.seats n ∙ ap (λ (d : Desk). seat_at d n) did.same
 
@@ -171,6 +173,7 @@ desk_seated {f} {g} {i} {j} s same pin is looks picks others = record {
     look n (inl at) = subst (λ (k : ℕ). (seat_at g k).looks ≡ (seat_at f k).looks ++ looks_under k i (s ∷ [])) (sym at)
         (looks ∙ ap (λ (l : List Look). (seat_at f i).looks ++ l) (sym (append-nil (looks_by s))) ∙ ap (λ (b : Bool). (seat_at f i).looks ++ (only_if b (looks_by s) ++ [])) (sym (same_link i)))
     look n (inr ne) = ap (λ (o : Option Seat). (held o).looks) (others n ne) ∙ sym (append-nil (seat_at f n).looks) ∙ ap (λ (b : Bool). (seat_at f n).looks ++ (only_if b (looks_by s) ++ [])) (sym (other_link n i ne))
+
     pick : (n : ℕ) → (n ≡ i) ⊎ (n ≢ i) → (seat_at g n).picks ≡ (seat_at f n).picks ++ picks_under n i (s ∷ [])
     pick n (inl at) = subst (λ (k : ℕ). (seat_at g k).picks ≡ (seat_at f k).picks ++ picks_under k i (s ∷ [])) (sym at)
         (picks ∙ ap (λ (l : List NodePick). (seat_at f i).picks ++ l) (sym (append-nil (picks_by s))) ∙ ap (λ (b : Bool). (seat_at f i).picks ++ (only_if b (picks_by s) ++ [])) (sym (same_link i)))
@@ -213,6 +216,7 @@ desk_undrawn {f} {g} {i} {j} {node} {mask} {result} seat did none is = record {
     look : (n : ℕ) → (n ≡ i) ⊎ (n ≢ i) → (seat_at g n).looks ≡ (seat_at f n).looks ++ []
     look n (inl at) = subst (λ (k : ℕ). (seat_at g k).looks ≡ (seat_at f k).looks ++ []) (sym at) (did.looks ∙ sym (append-nil (seat_at f i).looks))
     look n (inr ne) = ap (λ (o : Option Seat). (held o).looks) (seat.others n ne) ∙ sym (append-nil (seat_at f n).looks)
+
     pick : (n : ℕ) → (n ≡ i) ⊎ (n ≢ i) → (seat_at g n).picks ≡ (seat_at f n).picks ++ []
     pick n (inl at) = subst (λ (k : ℕ). (seat_at g k).picks ≡ (seat_at f k).picks ++ []) (sym at) (did.picks ∙ ap (λ (l : List NodePick). (seat_at f i).picks ++ l) none)
     pick n (inr ne) = ap (λ (o : Option Seat). (held o).picks) (seat.others n ne) ∙ sym (append-nil (seat_at f n).picks)

@@ -169,8 +169,19 @@ went_step {S} {link} {s} {t} {l} {m} {f} {c} {d} {ran} {did} linked keeps owns c
   where
     world_weaker : {P Q : ℕ → Type 0} {x y : Moment} {a : List Event} {b : List Step} → ((k : ℕ) → P k → Q k) → WorldWent P x y a b → WorldWent Q x y a b
     world_weaker {P} {Q} {x} {y} {a} {b} f w = record {
-      log = w.log; shows = w.shows; noted = w.noted; others = λ k un. w.others k (λ p. un (f k p)); come = w.come; fresh = w.fresh; unlogged = w.unlogged;
-      failed = w.failed; faults = w.faults; stops = w.stops; waits_failed = w.waits_failed; clocked = w.clocked; no_more = w.no_more;
+      log = w.log;
+      shows = w.shows;
+      noted = w.noted;
+      others = λ k un. w.others k (λ p. un (f k p));
+      come = w.come;
+      fresh = w.fresh;
+      unlogged = w.unlogged;
+      failed = w.failed;
+      faults = w.faults;
+      stops = w.stops;
+      waits_failed = w.waits_failed;
+      clocked = w.clocked;
+      no_more = w.no_more;
     }
 
 -- the client's link, or the server's
@@ -304,12 +315,25 @@ went_dial {s} {t} {l} {m} {f} {c} {d} {host} {port} link linked came same opened
   where
     given : Given s t link
     given = record { before = came.not_come; after = came.come }
+
     other : c.client.link ≢ link
     other is = not_false (subst (λ (n : ℕ). s.come n ≡ true) is linked.come) came.not_come
+
     world_weaker : {P Q : ℕ → Type 0} {x y : Moment} {a : List Event} {b : List Step} → ((k : ℕ) → P k → Q k) → WorldWent P x y a b → WorldWent Q x y a b
     world_weaker {P} {Q} {x} {y} {a} {b} f w = record {
-      log = w.log; shows = w.shows; noted = w.noted; others = λ k un. w.others k (λ p. un (f k p)); come = w.come; fresh = w.fresh; unlogged = w.unlogged;
-      failed = w.failed; faults = w.faults; stops = w.stops; waits_failed = w.waits_failed; clocked = w.clocked; no_more = w.no_more;
+      log = w.log;
+      shows = w.shows;
+      noted = w.noted;
+      others = λ k un. w.others k (λ p. un (f k p));
+      come = w.come;
+      fresh = w.fresh;
+      unlogged = w.unlogged;
+      failed = w.failed;
+      faults = w.faults;
+      stops = w.stops;
+      waits_failed = w.waits_failed;
+      clocked = w.clocked;
+      no_more = w.no_more;
     }
 
 -- and then a link of it was closed, unless it was closed before
@@ -325,6 +349,7 @@ went_close {S} {x} {t} {u} {m} {n} {f} {d} link a owns come did only client idle
       linked = record { come = kept d.client.link a.conn.linked.come; client = is_open; server = λ ex. absurd (idle ex); apart = λ ex. absurd (idle ex) };
       stopped = λ some. absurd (some refl);
     }
+
     by : (b : Bool) → t.is_open link ≡ b → Went S x (moment u n f d)
     by true is = let c = did.0 is in let seen : SeenAt link t u = seen_closed c in
         went_join (λ k. k ≡ link) a (world_at {f = f} {c = d} (seen.come link come) seen only (ap (λ (v : Seen). v.log) c.same) (alone_closed link d.client.link) (λ g. absurd (not_false come g.before)) (λ some. absurd (some refl)))
@@ -371,15 +396,27 @@ went_unnoted {S} {x} {t} {u} {m} {f} {d} {k} w more is = subst (λ (v : Seen). W
   ran = w.ran;
   did = w.did;
   world = record {
-    log = w.world.log; shows = w.world.shows; noted = w.world.noted;
+    log = w.world.log;
+    shows = w.world.shows;
+    noted = w.world.noted;
     others = λ l un. let s = w.world.others l (λ o. un (owns_more (λ n h. h) o)) in record { quiet = s.quiet; untold = s.untold; come = s.come; is_open = s.is_open; faults = s.faults; lately = s.lately };
-    come = w.world.come; fresh = w.world.fresh; unlogged = λ l g. w.world.unlogged l (record { before = g.before; after = g.after });
-    failed = w.world.failed; faults = w.world.faults; stops = w.world.stops; waits_failed = omega (arith, w.world.waits_failed, more); clocked = w.world.clocked; no_more = w.world.no_more;
+    come = w.world.come;
+    fresh = w.world.fresh;
+    unlogged = λ l g. w.world.unlogged l (record { before = g.before; after = g.after });
+    failed = w.world.failed;
+    faults = w.world.faults;
+    stops = w.world.stops;
+    waits_failed = omega (arith, w.world.waits_failed, more);
+    clocked = w.world.clocked;
+    no_more = w.world.no_more;
   };
-  conn = record { reached = w.conn.reached; client = w.conn.client;
+  conn = record {
+    reached = w.conn.reached;
+    client = w.conn.client;
     server = λ ex. on_server (w.conn.server ex);
     linked = record { come = w.conn.linked.come; client = w.conn.linked.client; server = λ ex. let g = w.conn.linked.server ex in record { come = g.come; is_open = g.is_open }; apart = w.conn.linked.apart };
-    stopped = w.conn.stopped };
+    stopped = w.conn.stopped;
+  };
   desk = w.desk;
 })
   where
@@ -418,6 +455,7 @@ told_server {steps} {c} r ex none = told (subst (λ (q : Phase). PhaseHolds q st
           where
             cut : {A : Type 0} {a : A} {rest : List A} → [] ≡ a ∷ rest → ⊥
             cut e = cc
+
             shown : IsShown steps turn.turn → ⊥
             shown s = let t = subst (λ (o : Option BackLink). IsLinkTold steps o) turn.holds.sent.back s in
                 cut (sym none.quiet ∙ ap (λ (n : ℕ). history n steps) (sym turn.holds.number) ∙ t.events ∙ t.opened)
@@ -560,8 +598,11 @@ ready_new {s} {t} {generations} {e} link c came is waits number prompt = record 
     idle ex = let other : stage.Head ≡ stage.Exchange = sym waits.stage ∙ ex.stage in cc
 
 pub tracked_new : {s t : Seen} {e : LinkEvent} (link : ℕ) (f : LinkEvent) (c : Conn) → Came s link e t → Reached (happened link f ∷ []) c → IsTracked t c
-tracked_new {s} {t} {e} link f c came reached = (happened link f ∷ [], record {
-  reached = reached;
-  fresh = λ l none. let a : Alone link link (on link f ∷ []) (happened link f ∷ []) = alone_event link link f (λ ne. absurd (ne refl)) in
-      (a.quiet l (λ same. not_false (subst (λ (i : ℕ). t.come i ≡ true) (sym same) came.come) none)).1;
-})
+tracked_new {s} {t} {e} link f c came reached = (
+  happened link f ∷ [],
+  record {
+    reached = reached;
+    fresh = λ l none. let a : Alone link link (on link f ∷ []) (happened link f ∷ []) = alone_event link link f (λ ne. absurd (ne refl)) in
+        (a.quiet l (λ same. not_false (subst (λ (i : ℕ). t.come i ≡ true) (sym same) came.come) none)).1;
+  },
+)

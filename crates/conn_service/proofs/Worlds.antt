@@ -75,9 +75,11 @@ world_then {x} {y} {z} {a} {b} {da} {db} P Q R client first_of second_of p q = r
   where
     both : {X : Type 0} (xs ys : List X) → xs ≡ [] → ys ≡ [] → xs ++ ys ≡ []
     both xs ys e f = cc
+
     first : (l : ℕ) (b : Bool) → y.seen.come l ≡ b → Given x.seen z.seen l → IfSome x.seen.log (IsFresh l)
     first l true is g = p.unlogged l (record { before = g.before; after = is })
     first l false is g = fresh_before x.seen.log a l (subst (λ (o : Option (List Event)). IfSome o (IsFresh l)) p.log (q.unlogged l (record { before = is; after = g.after })))
+
     fails : (l : ℕ) → (failures l da ≢ []) ⊎ (failures l db ≢ []) → Rose (x.seen.faults l) (z.seen.faults l)
     fails l (inl some) = let r = p.failed l some in (omega (arith, r.0, q.faults l), omega (arith, r.1, q.faults l))
     fails l (inr some) = let r = q.failed l some in (omega (arith, r.0, p.faults l), omega (arith, r.1, p.faults l))
@@ -128,12 +130,15 @@ world_at {link} {s} {t} {l} {m} {f} {g} {c} {d} {ran} {did} come seen only log a
       faults = seen.others_faults k ne;
       lately = only.others k ne;
     }
+
     new_link : (k : ℕ) → Given s t k → (k ≡ link) ⊎ (k ≢ link) → IfSome s.log (IsFresh k)
     new_link k given (inl same) = subst (λ (n : ℕ). IfSome s.log (IsFresh n)) (sym same) (unlogged (subst (λ (n : ℕ). Given s t n) same given))
     new_link k given (inr ne) = absurd (not_false (sym (seen.others_come k ne) ∙ given.after) given.before)
+
     failed_link : (k : ℕ) → failures k did ≢ [] → (k ≡ link) ⊎ (k ≢ link) → Rose (s.faults k) (t.faults k)
     failed_link k some (inl same) = subst (λ (n : ℕ). Rose (s.faults n) (t.faults n)) (sym same) (fails (subst (λ (n : ℕ). failures n did ≢ []) same some))
     failed_link k some (inr ne) = absurd (some (alone.quiet k ne).1.sound)
+
     faults_link : (k : ℕ) → (k ≡ link) ⊎ (k ≢ link) → s.faults k ≤ t.faults k
     faults_link k (inl same) = subst (λ (n : ℕ). s.faults n ≤ t.faults n) (sym same) seen.faults
     faults_link k (inr ne) = omega (arith, seen.others_faults k ne)

@@ -102,7 +102,11 @@ fn receive_into<W: World>(
 }
 
 /// Writes what is pending for the client. Answers whether anything came of it.
-pub(crate) fn answer<W: World>(conn: &mut Conn, alloc: Global, world: &mut W) -> Result<bool, Memory>
+pub(crate) fn answer<W: World>(
+    conn: &mut Conn,
+    alloc: Global,
+    world: &mut W,
+) -> Result<bool, Memory>
     requires { Linked (W.seen world.old) conn.old }
     ensures went { (g : Desk) → Went ⊥ (moment (W.seen world.old) (W.lately world.old) g conn.old)
         (moment (W.seen world.new) (W.lately world.new) g conn.new) }

@@ -5,8 +5,8 @@
 mod choose;
 mod client;
 mod links;
-mod service;
 mod server;
+mod service;
 #[cfg(test)]
 mod tests;
 mod turn;

@@ -6,47 +6,36 @@ ghost use Rattle.conn_service.specs.Moments.{IsReady, IsTracked};
 use crate::serve;
 use conn_machine::Conn;
 use desk::OneDesk;
-use generation::{Generation, Route, Target};
+use generation::{Generation, one_router};
 use ip_net::Ip;
 use link_world::{Arrival, World};
 use memory_world::{Given, MemoryWorld};
-use px_base::{Bytes, List as ListOf, Memory};
-use rule_lang::{Leaf, Matcher};
+use px_base::{Bytes, Memory};
 use std::alloc::{AllocError, Global};
 use std::process::Abort;
 use std::sync::{Arc, Wait};
 use std::test::Fail;
 
 const REQUEST: &str = "GET / HTTP/1.1\r\nHost: a.test\r\n\r\n";
-const FORWARDED: &str = "GET / HTTP/1.1\r\nHost: a.test\r\nX-Forwarded-For: 127.0.0.1\r\nX-Forwarded-Host: a.test\r\nX-Forwarded-Port: 80\r\nX-Forwarded-Proto: http\r\nX-Real-Ip: 127.0.0.1\r\nConnection: close\r\n\r\n";
+
+const FORWARDED: &str =
+    "GET / HTTP/1.1\r\nHost: a.test\r\nX-Forwarded-For: 127.0.0.1\r\nX-Forwarded-Host: a.test\r\nX-Forwarded-Port: 80\r\nX-Forwarded-Proto: http\r\nX-Real-Ip: 127.0.0.1\r\nConnection: close\r\n\r\n";
+
 const REPLY: &str = "HTTP/1.1 200 OK\r\nContent-Length: 2\r\n\r\nok";
-const NOTES: &str = "note 0 1 gen 1 router 0 status 200 Passed looks 0:1 picks 0:0-1:0 turns - backs 1\nnote 0 end Client\n";
+
+const NOTES: &str =
+    "note 0 1 gen 1 router 0 status 200 Passed looks 0:1 picks 0:0-1:0 turns - backs 1\nnote 0 end Client\n";
 
 fn bytes(alloc: Global, text: &str) -> Result<Bytes, Memory> {
     Bytes::from_slice(alloc, text.as_bytes())
 }
 
 // Each path leads to one server.
-fn configuration(alloc: Global) -> Result<Generation, Memory> {
-    let target = Target {
-        node: 0,
-        host: bytes(alloc, "127.0.0.1")?,
-        port: 9000,
-        pass_host: true,
-    };
-    let rule = Leaf {
-        matcher: Matcher::PathPrefix,
-        value: bytes(alloc, "/")?,
-    };
-    let mut routes = ListOf::new(alloc);
-    routes.push(Route {
-        row: 0,
-        name: bytes(alloc, "r@file")?,
-        rule,
-        priority: 15,
-        target,
-    })?;
-    Ok(Generation::new(1, routes))
+fn configuration(alloc: Global) -> Result<Generation, Fail> {
+    match one_router(alloc, 1, b"PathPrefix(`/`)", b"http://127.0.0.1:9000")? {
+        Some(generation) => Ok(generation),
+        None => Err(Fail::from("not served")),
+    }
 }
 
 // A client that asks once and ends, and its server's reply.

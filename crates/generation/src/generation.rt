@@ -9,7 +9,7 @@ use dyn_config::Merged;
 use head_view::RequestView;
 use ip_net::Ip;
 use px_base::{List, Memory};
-use router_table::{RouterState, Table, build_table, rows, winner};
+use router_table::{RouterState, Row, Table, build_table, rows, winner};
 use rule_eval::RegexShop;
 use std::alloc::Global;
 
@@ -45,6 +45,13 @@ impl Generation {
         ensures { result ≡ (plan_of self.now).number }
     {
         self.number
+    }
+
+    /// The routers, by name.
+    pub fn rows(&self) -> &[Row]
+        ensures { result.now ≡ self.now.table.rows }
+    {
+        rows(&self.table)
     }
 
     /// The row of the router that a request gets: of those that are enabled, on its entry point, and whose rule is true of

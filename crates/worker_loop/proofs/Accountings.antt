@@ -69,7 +69,7 @@ pins_noted {steps} {c} r none =
     let k = r.kept in
     let link = c.client.link in
     let told : notes (history link steps) ≡ (flat_map (notes_of link) r.done ++ closed_by c.current.pinned link r.last) ++ ending_note link c.phase =
-        sym (append-nil (notes (history link steps))) ∙ ap (λ (ns : List Note). notes (history link steps) ++ ns) (sym none) ∙ k.holds.noted in
+    sym (append-nil (notes (history link steps))) ∙ ap (λ (ns : List Note). notes (history link steps) ++ ns) (sym none) ∙ k.holds.noted in
     ap (λ (ns : List ℕ). ns ++ open_number c)
     (ap (flat_map number_of) told
     ∙ flat_map-append number_of (flat_map (notes_of link) r.done ++ closed_by c.current.pinned link r.last) (ending_note link c.phase)
@@ -259,6 +259,7 @@ accounts_over {S} {base} {now} {new} {l} {m} {from} {f} {g} {c} {d} {steps} conn
     told_open Broken steps x done last rest left next told h = absurd told
     told_open (Over cause) steps x done last rest left next told h = absurd told
     told_open (Told cause) steps x done last rest left next told h = h.0
+
     over_number : (x : Conn) {steps : List Step} → Reached steps x → IsTold x.phase → open_number x ≡ []
     over_number x {steps} r told = ap (λ (b : Bool). number_if b x.current.number) (told_open x.phase steps x r.done r.last r.rest r.left r.kept.next told r.phase)
 

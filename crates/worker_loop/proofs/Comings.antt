@@ -76,7 +76,7 @@ first_shows {now} {new} a arrival =
       | inl same ↦
           let none : history_of l log ≡ [] = ap (λ (m : ℕ). history_of m log) same ∙ history_fresh a.link log fresh in
           let whole : history_of l (log ++ on a.link (came a.entry a.peer) ∷ []) ≡ history_of l (on a.link (came a.entry a.peer) ∷ []) =
-              history-append l log (on a.link (came a.entry a.peer) ∷ []) ∙ ap (λ (h : List LinkEvent). h ++ history_of l (on a.link (came a.entry a.peer) ∷ [])) none in
+          history-append l log (on a.link (came a.entry a.peer) ∷ []) ∙ ap (λ (h : List LinkEvent). h ++ history_of l (on a.link (came a.entry a.peer) ∷ [])) none in
           inr (sym whole)
     ]
 
@@ -107,9 +107,11 @@ began_untold {a} {d} began =
   where
     waits_none : (told waiting : List Note) → told ≡ [] → told ++ waiting ≡ [] → waiting ≡ []
     waits_none told waiting is e = ap (λ (ns : List Note). ns ++ waiting) (sym is) ∙ e
+
     mute : (b : Bool) → notes (only_if b (came a.entry a.peer ∷ []) ++ []) ≡ []
     mute true = refl
     mute false = refl
+
     closed_none : (b : Bool) (link : ℕ) → closed_by b link None ≡ []
     closed_none true link = refl
     closed_none false link = refl
@@ -124,8 +126,10 @@ step_accept {base} {now} {new} {g} a d conns conns' key arrival began gd others 
   where
     have : HaveCome new (first_steps a)
     have l not = first_new a l (λ same. let here = arrival.come in let e : new.come a.link ≡ false = ap new.come (sym same) ∙ not in let f : ⊥ = cc in f)
+
     idle : IsExchanging d → ⊥
     idle at = let x = at.stage in let y = began.waits.stage in cc
+
     tracks : Tracks new g (first_steps a) d
     tracks = record {
       stands = record { reached = began.reached; fresh = have };
@@ -153,8 +157,10 @@ step_away {base} {now} {mid} {new} {g} {conns} a arrival did r = step_quiet pass
   where
     shut : Closed mid a.link new
     shut = did.0 arrival.is_open
+
     at : LinkEvent
     at = came a.entry a.peer
+
     passed : Passed now new (on a.link (came a.entry a.peer) ∷ closed a.link ∷ []) []
     passed = record {
       log = ap (λ (s : Seen). s.log) shut.same ∙ ap (λ (o : Option (List Event)). extended o (closed a.link ∷ [])) (ap (λ (s : Seen). s.log) arrival.same) ∙ extended_twice now.log (on a.link (came a.entry a.peer) ∷ []) (closed a.link ∷ []);
@@ -168,6 +174,7 @@ step_away {base} {now} {mid} {new} {g} {conns} a arrival did r = step_quiet pass
       stops = let x : new.stops ≡ now.stops = ap (λ (s : Seen). s.stops) shut.same ∙ ap (λ (s : Seen). s.stops) arrival.same in omega (arith, x);
       waits = let x : new.waits_failed ≡ now.waits_failed = ap (λ (s : Seen). s.waits_failed) shut.same ∙ ap (λ (s : Seen). s.waits_failed) arrival.same in omega (arith, x);
     }
+
     mute : (l : ℕ) → notes (history_of l (on a.link (came a.entry a.peer) ∷ closed a.link ∷ [])) ≡ []
     mute l = came_mute l a.link a.entry a.peer
 
@@ -211,9 +218,9 @@ pub step_stop : {base now new : Seen} {g : List Plan} {conns : Slab Conn} → St
 step_stop {base} {now} {new} {g} {conns} (n, more, is) r =
     let rose : Rose now.stops new.stops = subst (λ (s : Seen). Rose now.stops s.stops) (sym is) more in (
       step_quiet
-      (idle_passed stop now new (λ l. refl) (ap (λ (s : Seen). s.log) is) (ap (λ (s : Seen). s.come) is) (ap (λ (s : Seen). s.is_open) is) (ap (λ (s : Seen). s.faults) is)
-      rose.0 (let same : new.waits_failed ≡ now.waits_failed = ap (λ (s : Seen). s.waits_failed) is in omega (arith, same)))
-      (λ l. refl) r,
+          (idle_passed stop now new (λ l. refl) (ap (λ (s : Seen). s.log) is) (ap (λ (s : Seen). s.come) is) (ap (λ (s : Seen). s.is_open) is) (ap (λ (s : Seen). s.faults) is)
+          rose.0 (let same : new.waits_failed ≡ now.waits_failed = ap (λ (s : Seen). s.waits_failed) is in omega (arith, same)))
+          (λ l. refl) r,
       inl (rose_after r.stops rose),
     )
 

@@ -52,7 +52,7 @@ pub record Passed (now new : Seen) (ran : List Event) (mine : List Step) : Type 
   pub waits : now.waits_failed ≤ new.waits_failed
 
 pub apart_sym : {a b : List Step} → AreApart a b → AreApart b a
-apart_sym apart l = elim (apart l) [ | inl q ↦ inr q | inr q ↦ inl q ]
+apart_sym apart l = elim (apart l) [ inl q ↦ inr q | inr q ↦ inl q ]
 
 pub apart_none : {a : List Step} → AreApart a []
 apart_none l = inr new_none
@@ -74,10 +74,10 @@ have_come p h l not = h l (come_before p l not)
 
 -- a link of which the steps tell has come
 pub has_come : (now : Seen) {steps : List Step} (l : ℕ) → HaveCome now steps → (IsNew l steps → ⊥) → now.come l ≡ true
-has_come now l h told = elim (true_or_false (now.come l)) [ | inl is ↦ is | inr not ↦ absurd (told (h l not)) ]
+has_come now l h told = elim (true_or_false (now.come l)) [ inl is ↦ is | inr not ↦ absurd (told (h l not)) ]
 
 pub no_more_told : {mine other : List Step} (l : ℕ) → AreApart other mine → (IsNew l other → ⊥) → IsNew l mine
-no_more_told l apart told = elim (apart l) [ | inl q ↦ absurd (told q) | inr q ↦ q ]
+no_more_told l apart told = elim (apart l) [ inl q ↦ absurd (told q) | inr q ↦ q ]
 
 -- what others were told is all that the longer log tells
 pub shows_kept : {now new : Seen} {ran : List Event} {mine other : List Step} → Passed now new ran mine → HaveCome now other → AreApart other mine → (log : List Event) → Shows other log → Shows other (log ++ ran)
@@ -226,7 +226,7 @@ Grows now mine next = (l : ℕ) → now.come l ≡ true → IsNew l mine → IsN
 pub apart_next : (now : Seen) {mine next other : List Step} → Grows now mine next → HaveCome now other → AreApart other mine → AreApart other next
 apart_next now grows h apart l = elim (true_or_false (now.come l)) [
   | inr not ↦ inl (h l not)
-  | inl is ↦ elim (apart l) [ | inl q ↦ inl q | inr q ↦ inr (grows l is q) ]
+  | inl is ↦ elim (apart l) [ inl q ↦ inl q | inr q ↦ inr (grows l is q) ]
 ]
 
 -- and its links stay no others'

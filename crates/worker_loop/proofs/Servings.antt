@@ -123,8 +123,10 @@ went_shows {S} {now} {new} {f} {g} {c} {d} {steps} w t shows =
   where
     Fresh : List Event → Type 0
     Fresh log = (l : ℕ) → now.come l ≡ false → IsNew l w.did ⊎ (history_of l log ≡ [])
+
     longer : (log : List Event) (l : ℕ) → history l steps ≡ history_of l log → history l (steps ++ w.did) ≡ history_of l (log ++ w.ran)
     longer log l e = steps-append l steps w.did ∙ ap (λ (h : List LinkEvent). h ++ history l w.did) e ∙ ap (λ (h : List LinkEvent). history_of l log ++ h) (w.shows l) ∙ sym (history-append l log w.ran)
+
     next : (log : List Event) → Shows steps log × Fresh log → Shows (steps ++ w.did) (log ++ w.ran)
     next log h l = elim (h.0 l) [
       | inr e ↦ inr (longer log l e)
@@ -215,6 +217,7 @@ step_at {base} {now} {new} {f} {g} {ran} conns conns' key next r p grew grows co
         subst (λ (s : List Step). AreApart s (put r.steps key next k)) (sym (put_other r.steps key next j ne))
         (subst (λ (s : List Step). AreApart (r.steps j) s) (sym (put_same r.steps key next k same))
         (apart_next now grows (r.attends.come j) (r.attends.apart j key ne)))
+
     two : (k j : ℕ) → k ≢ key → j ≢ key → k ≢ j → AreApart (put r.steps key next k) (put r.steps key next j)
     two k j not_k not_j ne =
         subst (λ (s : List Step). AreApart s (put r.steps key next j)) (sym (put_other r.steps key next k not_k))
@@ -246,8 +249,8 @@ unended_here {S} {base} {now} {new} {f} {g} {c} {d} {steps} all log w t unended 
       let whole : AllByRecursion IsRequestNote (notes (history d.client.link (steps ++ w.did))) = unended (steps ++ w.did) (w.stands steps t).reached in
       let late : Contains (notes (history l w.did)) (end_note l cause) = subst (λ (h : List LinkEvent). Contains (notes h) (end_note l cause)) (sym (w.shows l)) has in
       let behind : Contains (notes (history l (steps ++ w.did))) (end_note l cause) =
-          subst (λ (ns : List Note). Contains ns (end_note l cause)) (sym (ap notes (steps-append l steps w.did) ∙ flat_map-append note_by (history l steps) (history l w.did)))
-          (Contains-append_right (notes (history l steps)) (notes (history l w.did)) (end_note l cause) late) in
+      subst (λ (ns : List Note). Contains ns (end_note l cause)) (sym (ap notes (steps-append l steps w.did) ∙ flat_map-append note_by (history l steps) (history l w.did)))
+      (Contains-append_right (notes (history l steps)) (notes (history l w.did)) (end_note l cause) late) in
       let at : l ≡ d.client.link = same ∙ ap (λ (k : Client). k.link) (sym w.client) in
       All-contains IsRequestNote (notes (history l (steps ++ w.did))) (end_note l cause)
       (All-from_recursion IsRequestNote (notes (history l (steps ++ w.did))) (subst (λ (m : ℕ). AllByRecursion IsRequestNote (notes (history m (steps ++ w.did)))) (sym at) whole)) behind
@@ -308,7 +311,7 @@ step_over {S} {base} {now} {new} {f} {g} {c} {d} conns conns' key gc w stopping 
             steps = r.steps key ++ w.did;
             served = served_weaker (grew_none g) (λ x. went_counted (r.steps key) w t.counted d.client.link x) (λ x. stopping (went_stops (r.steps key) w t.unstopped x))
                 (says (r.steps key ++ w.did) g stands.reached (went_held (r.steps key) w t.held));
-            client = elim (shows d.client.link) [ | inl q ↦ absurd (client_told stands.reached q) | inr e ↦ e ];
+            client = elim (shows d.client.link) [ inl q ↦ absurd (client_told stands.reached q) | inr e ↦ e ];
             shows = shows;
             counted = went_counted (r.steps key) w t.counted;
           };
@@ -390,11 +393,14 @@ run_served {base} {now} {g} r = (r.ran, r.log, told_then base.log (λ before. En
 
 -- no connection is open
 pub attends_none : (now : Seen) (g : List Plan) (conns : Slab Conn) → conns.slots ≡ [] → Attends now g conns
-attends_none now g conns none = (λ k. [], record {
-  tracks = λ k c gc. absurd (let e : get conns k ≡ None = ap (λ (slots : List (Option Conn)). get_or slots k None) none in let f : ⊥ = cc in f);
-  apart = λ k j ne. apart_none;
-  come = λ k l not. new_none;
-})
+attends_none now g conns none = (
+  λ k. [],
+  record {
+    tracks = λ k c gc. absurd (let e : get conns k ≡ None = ap (λ (slots : List (Option Conn)). get_or slots k None) none in let f : ⊥ = cc in f);
+    apart = λ k j ne. apart_none;
+    come = λ k l not. new_none;
+  },
+)
 
 -- the keys below one have no connection, and those past the end have none
 pub gone_next : (conns conns' : Slab Conn) (key : ℕ) → ((k : ℕ) → k < key → get conns k ≡ None) → get conns' key ≡ None → Others conns conns' key → (k : ℕ) → k < key + 1 → get conns' k ≡ None
@@ -407,7 +413,7 @@ pub gone_past : (conns conns' : Slab Conn) (key end : ℕ) → key < end → ((k
 gone_past conns conns' key end lt past others k le = others k (λ same. omega (arith, same, le, lt)) ∙ past k le
 
 pub gone_all : (conns : Slab Conn) (end : ℕ) → ((k : ℕ) → k < end → get conns k ≡ None) → ((k : ℕ) → end ≤ k → get conns k ≡ None) → (k : ℕ) → get conns k ≡ None
-gone_all conns end below past k = elim (cases_lt k end) [ | inl lt ↦ below k lt | inr le ↦ past k le ]
+gone_all conns end below past k = elim (cases_lt k end) [ inl lt ↦ below k lt | inr le ↦ past k le ]
 
 -- no key past the slots has a connection
 pub past_slots : {X : Type 0} (xs : List (Option X)) (k : ℕ) → length xs ≤ k → get_or xs k None ≡ None
@@ -420,11 +426,14 @@ none_in conns none k = ap (λ (slots : List (Option Conn)). get_or slots k None)
 
 -- generations were published
 pub attends_grew : (now : Seen) (f g : List Plan) (conns : Slab Conn) → Grew f g → Attends now f conns → Attends now g conns
-attends_grew now f g conns grew (steps, a) = (steps, record {
-  tracks = λ k c gc. tracks_kept still grew apart_none (a.tracks k c gc);
-  apart = a.apart;
-  come = a.come;
-})
+attends_grew now f g conns grew (steps, a) = (
+  steps,
+  record {
+    tracks = λ k c gc. tracks_kept still grew apart_none (a.tracks k c gc);
+    apart = a.apart;
+    come = a.come;
+  },
+)
   where
     still : Passed now now [] []
     still = record {

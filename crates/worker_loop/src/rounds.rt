@@ -89,5 +89,9 @@ fn finish<W: World>(alloc: Global, worker: &mut Worker, world: &mut W, end: Work
     ensures accounts { (base : Seen) (from to : Desk) → result ≢ WorkerEnd.Memory → Accounts base (W.seen world.old) from to worker.old.conns
         → Accounts base (W.seen world.new) from to worker.new.conns }
 {
-    if worker.stop_all(alloc, world) { end } else { WorkerEnd::Memory }
+    if worker.stop_all(alloc, world) {
+        end
+    } else {
+        WorkerEnd::Memory
+    }
 }

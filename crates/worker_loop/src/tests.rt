@@ -18,7 +18,10 @@ use std::sync::{Arc, Wait};
 use std::test::Fail;
 
 const REQUEST: &str = "GET / HTTP/1.1\r\nHost: a.test\r\n\r\n";
-const FORWARDED: &str = "GET / HTTP/1.1\r\nHost: a.test\r\nX-Forwarded-For: 127.0.0.1\r\nX-Forwarded-Host: a.test\r\nX-Forwarded-Port: 80\r\nX-Forwarded-Proto: http\r\nX-Real-Ip: 127.0.0.1\r\nConnection: close\r\n\r\n";
+
+const FORWARDED: &str =
+    "GET / HTTP/1.1\r\nHost: a.test\r\nX-Forwarded-For: 127.0.0.1\r\nX-Forwarded-Host: a.test\r\nX-Forwarded-Port: 80\r\nX-Forwarded-Proto: http\r\nX-Real-Ip: 127.0.0.1\r\nConnection: close\r\n\r\n";
+
 const REPLY: &str = "HTTP/1.1 200 OK\r\nContent-Length: 2\r\n\r\nok";
 
 fn bytes(alloc: Global, text: &str) -> Result<Bytes, Memory> {
@@ -66,7 +69,12 @@ fn expect_text(rt: &impl Abort, text: &[u8], wanted: &str) {
     assert_eq!(rt; text, wanted.as_bytes());
 }
 
-fn expect_notes(rt: &impl Abort, alloc: Global, world: &MemoryWorld, wanted: &str) -> Result<(), Fail> {
+fn expect_notes(
+    rt: &impl Abort,
+    alloc: Global,
+    world: &MemoryWorld,
+    wanted: &str,
+) -> Result<(), Fail> {
     expect_text(rt, &world.note_lines(alloc, 0)?, wanted);
     Ok(())
 }

@@ -40,6 +40,6 @@ pub returns-clause-went : goal.returns-clause-went
 returns-clause-went g c = λ s l linked.
     let keeps = keeps_same c.reserve.ensures.client c.reserve.ensures.current c.reserve.ensures.phase c.reserve.ensures.stage in
     let w = went_then (went_none linked keeps c.reserve.ensures.reached)
-        (went_desk (linked_still linked keeps) c.looked.ensures.client (λ is. c.reserve.ensures.phase ∙ c.in-Look.ensures.0.phase) c.looked.ensures.server
-        (λ k. record { quiet = refl; sound = refl }) refl (desk_looked c.look-mask.ensures.looked c.looked.ensures.number) c.looked.ensures.reached) in
+    (went_desk (linked_still linked keeps) c.looked.ensures.client (λ is. c.reserve.ensures.phase ∙ c.in-Look.ensures.0.phase) c.looked.ensures.server
+    (λ k. record { quiet = refl; sound = refl }) refl (desk_looked c.look-mask.ensures.looked c.looked.ensures.number) c.looked.ensures.reached) in
     went_then w (c.draw.ensures.went s l w.conn.linked)

@@ -60,12 +60,15 @@ returns-clause-counted g c = λ r h. c.send.ensures.counted r
     (counted_same c.reserve.ensures.client (keeps_server c.reserve.ensures.phase c.reserve.ensures.stage c.reserve.ensures.current) h)
 
 pub returns-clause-still : goal.returns-clause-still
-returns-clause-still g c = if_ok c.send.result (λ moved f e open_. let q = f e in (stays_then (stays_work _ (record {
-  client = c.reserve.ensures.client;
-  current = c.reserve.ensures.current;
-  phase = c.reserve.ensures.phase;
-  stage = c.reserve.ensures.stage;
-  over = c.reserve.ensures.over;
-  input = c.reserve.ensures.input;
-  pending = c.reserve.ensures.pending;
-})) q.0, λ some. q.1)) c.send.ensures.still
+returns-clause-still g c = if_ok c.send.result (λ moved f e open_. let q = f e in (
+  stays_then (stays_work _ (record {
+    client = c.reserve.ensures.client;
+    current = c.reserve.ensures.current;
+    phase = c.reserve.ensures.phase;
+    stage = c.reserve.ensures.stage;
+    over = c.reserve.ensures.over;
+    input = c.reserve.ensures.input;
+    pending = c.reserve.ensures.pending;
+  })) q.0,
+  λ some. q.1,
+)) c.send.ensures.still

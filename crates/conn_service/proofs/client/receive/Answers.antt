@@ -43,12 +43,15 @@ returns-clause-counted g c = c.receive_into.ensures.counted c.args.reads.now c.i
     (counted_same c.reserve.ensures.client (keeps_server c.reserve.ensures.phase c.reserve.ensures.stage c.reserve.ensures.current) c.requires.counted)
 
 pub returns-clause-still : goal.returns-clause-still
-returns-clause-still g c = if_ok c.receive_into.result (λ moved f e open_. let q = f e in (stays_then (stays_work _ (record {
-  client = c.reserve.ensures.client;
-  current = c.reserve.ensures.current;
-  phase = c.reserve.ensures.phase;
-  stage = c.reserve.ensures.stage;
-  over = c.reserve.ensures.over;
-  input = c.reserve.ensures.input;
-  pending = c.reserve.ensures.pending;
-})) q.0, inr (inr q.1))) c.receive_into.ensures.still
+returns-clause-still g c = if_ok c.receive_into.result (λ moved f e open_. let q = f e in (
+  stays_then (stays_work _ (record {
+    client = c.reserve.ensures.client;
+    current = c.reserve.ensures.current;
+    phase = c.reserve.ensures.phase;
+    stage = c.reserve.ensures.stage;
+    over = c.reserve.ensures.over;
+    input = c.reserve.ensures.input;
+    pending = c.reserve.ensures.pending;
+  })) q.0,
+  inr (inr q.1),
+)) c.receive_into.ensures.still

@@ -64,16 +64,18 @@ pub returns-in-Took-clause-counted : goal.returns-in-Took-clause-counted
 returns-in-Took-clause-counted g c = λ r h. counted_write c.in-Took.ensures.lately c.back_took.ensures.client c.back_took.ensures.server (counted_same c.reserve.ensures.client (keeps_server c.reserve.ensures.phase c.reserve.ensures.stage c.reserve.ensures.current) h)
 
 pub returns-in-NotYet-clause-still : goal.returns-in-NotYet-clause-still
-returns-in-NotYet-clause-still g c = λ e. let s = (serving_still c.args.conn.now c.reserve.new.self c.reserve.ensures.phase c.reserve.ensures.stage c.reserve.ensures.current c.in-Some.ensures) in (stays_then (stays_work _ (record {
-  client = c.reserve.ensures.client;
-  current = c.reserve.ensures.current;
-  phase = c.reserve.ensures.phase;
-  stage = c.reserve.ensures.stage;
-  over = c.reserve.ensures.over;
-  input = c.reserve.ensures.input;
-  pending = c.reserve.ensures.pending;
-})) (stays_write c.in-NotYet.ensures.lately (work_same _)),
-    λ ex some. subst (λ (i : ℕ). (g.W.World.lately c.write.new.self).write_quiet i ≡ true) s.1 c.in-NotYet.ensures.lately.write_quiet)
+returns-in-NotYet-clause-still g c = λ e. let s = (serving_still c.args.conn.now c.reserve.new.self c.reserve.ensures.phase c.reserve.ensures.stage c.reserve.ensures.current c.in-Some.ensures) in (
+  stays_then (stays_work _ (record {
+    client = c.reserve.ensures.client;
+    current = c.reserve.ensures.current;
+    phase = c.reserve.ensures.phase;
+    stage = c.reserve.ensures.stage;
+    over = c.reserve.ensures.over;
+    input = c.reserve.ensures.input;
+    pending = c.reserve.ensures.pending;
+  })) (stays_write c.in-NotYet.ensures.lately (work_same _)),
+  λ ex some. subst (λ (i : ℕ). (g.W.World.lately c.write.new.self).write_quiet i ≡ true) s.1 c.in-NotYet.ensures.lately.write_quiet,
+)
 
 pub back_failed-requires-clause-waits : goal.back_failed-requires-clause-waits
 back_failed-requires-clause-waits g c = let s = (serving_still c.args.conn.now c.reserve.new.self c.reserve.ensures.phase c.reserve.ensures.stage c.reserve.ensures.current c.in-Some.ensures) in s.0

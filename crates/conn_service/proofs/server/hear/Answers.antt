@@ -37,16 +37,18 @@ pub read-requires-clause-given : goal.read-requires-clause-given
 read-requires-clause-given g c = server_given c.args.conn.now c.requires.linked c.in-Some.ensures
 
 pub returns-in-NotYet-clause-still : goal.returns-in-NotYet-clause-still
-returns-in-NotYet-clause-still g c = λ e. let s = (serving_still c.args.conn.now c.reserve.new.self c.reserve.ensures.phase c.reserve.ensures.stage c.reserve.ensures.current c.in-Some.ensures) in (stays_then (stays_work _ (record {
-  client = c.reserve.ensures.client;
-  current = c.reserve.ensures.current;
-  phase = c.reserve.ensures.phase;
-  stage = c.reserve.ensures.stage;
-  over = c.reserve.ensures.over;
-  input = c.reserve.ensures.input;
-  pending = c.reserve.ensures.pending;
-})) (stays_read c.in-NotYet.ensures.lately (work_same _)),
-    λ ex. inl (subst (λ (i : ℕ). (g.W.World.lately c.read.new.self).read_quiet i ≡ true) s.1 c.in-NotYet.ensures.lately.read_quiet))
+returns-in-NotYet-clause-still g c = λ e. let s = (serving_still c.args.conn.now c.reserve.new.self c.reserve.ensures.phase c.reserve.ensures.stage c.reserve.ensures.current c.in-Some.ensures) in (
+  stays_then (stays_work _ (record {
+    client = c.reserve.ensures.client;
+    current = c.reserve.ensures.current;
+    phase = c.reserve.ensures.phase;
+    stage = c.reserve.ensures.stage;
+    over = c.reserve.ensures.over;
+    input = c.reserve.ensures.input;
+    pending = c.reserve.ensures.pending;
+  })) (stays_read c.in-NotYet.ensures.lately (work_same _)),
+  λ ex. inl (subst (λ (i : ℕ). (g.W.World.lately c.read.new.self).read_quiet i ≡ true) s.1 c.in-NotYet.ensures.lately.read_quiet),
+)
 
 pub back_bytes-requires-clause-waits : goal.back_bytes-requires-clause-waits
 back_bytes-requires-clause-waits g c = let s = (serving_still c.args.conn.now c.reserve.new.self c.reserve.ensures.phase c.reserve.ensures.stage c.reserve.ensures.current c.in-Some.ensures) in s.0

@@ -56,5 +56,8 @@ returns-in-Err-clause-accounts g c = λ base from not_memory a.
     c.finish-in-Err.ensures.accounts base from (g.S.Shared.desk c.turn.new.shared) not_memory (accounts_failed _ c.in-Err.ensures.seen (accounts_same c.if-stop_asked.ensures.seen (c.in-Ok.ensures.accounts base from (c.loop.invariant.4 base from a))))
 
 pub returns-then-stop_asked-clause-settled : goal.returns-then-stop_asked-clause-settled
-returns-then-stop_asked-clause-settled g c = λ is. (c.turn.new.world, c.turn.new.self.conns,
-    stopped_after (g.W.World.seen c.turn.new.world) (g.W.World.seen c.stop_asked.new.self) (g.W.World.seen c.finish.new.world) c.turn.new.self.conns c.args.worker.now.links (subst (λ (n : ℕ). TurnDone (g.W.World.lately c.turn.new.world) c.turn.new.self.conns n) (c.turn.ensures.links ∙ c.loop.invariant.5) c.in-Ok.ensures.done) c.if-stop_asked.ensures.seen c.finish.ensures.unasked c.finish.ensures.ends)
+returns-then-stop_asked-clause-settled g c = λ is. (
+  c.turn.new.world,
+  c.turn.new.self.conns,
+  stopped_after (g.W.World.seen c.turn.new.world) (g.W.World.seen c.stop_asked.new.self) (g.W.World.seen c.finish.new.world) c.turn.new.self.conns c.args.worker.now.links (subst (λ (n : ℕ). TurnDone (g.W.World.lately c.turn.new.world) c.turn.new.self.conns n) (c.turn.ensures.links ∙ c.loop.invariant.5) c.in-Ok.ensures.done) c.if-stop_asked.ensures.seen c.finish.ensures.unasked c.finish.ensures.ends,
+)

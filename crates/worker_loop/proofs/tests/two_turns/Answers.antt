@@ -11,4 +11,4 @@ turn-requires-2 g c =
     let first = runs_attends (step_wait c.in-Ok.ensures.seen (runs_none _ _ _ c.requires)) in
     let second = runs_attends (c.turn.ensures.runs _ (runs_none _ _ _ first)) in
     let third = attends_grew _ (desk_of c.turn.new.shared).generations (desk_of c.publish.new.shared).generations _ c.in_ok-publish.ensures second in
-    runs_attends (step_wait c.in-Ok-2.ensures.seen (runs_none _ _ _ third))
+    runs_attends (step_wait c.in-Ok-wait.ensures.seen (runs_none _ _ _ third))

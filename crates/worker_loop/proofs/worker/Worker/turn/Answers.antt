@@ -20,7 +20,6 @@ loop-init g c = (tt, tt, λ base r. c.serve_all.ensures.runs base (step_clock c.
 pub welcome-requires : goal.welcome-requires
 welcome-requires g c = runs_attends (c.loop.invariant.2 _ (runs_none _ _ _ c.requires))
 
-
 pub returns-then-not-branch-clause-done : goal.returns-then-not-branch-clause-done
 returns-then-not-branch-clause-done g c = record {
   clocked = c.welcome.ensures.clocked ∙ c.loop.invariant.3;
