@@ -1,20 +1,23 @@
 #!/usr/bin/env bash
-# The built program answers the README's examples as they are written there.
+# The built program answers the README's examples as they are written there, and each file of examples/.
+# PROXY names another program to be asked in place of ./proxy.
 set -euo pipefail
 cd "$(dirname "$0")/.."
+proxy=${PROXY:-./proxy}
 status=0
 
 # expect STATUS TEXT FILE: what `route FILE` answers to the head on standard input.
 expect() {
   local wanted_status=$1 wanted=$2 file=$3 got got_status=0
-  got=$(./proxy route "$file") || got_status=$?
+  got=$("$proxy" route "$file") || got_status=$?
   if [ "$got" != "$wanted" ] || [ "$got_status" != "$wanted_status" ]; then
     echo "examples: route $file answered '$got' with $got_status, and '$wanted' with $wanted_status is wanted"
     status=1
   fi
 }
 
-head_for() { printf 'GET %s HTTP/1.1\r\nHost: %s\r\n\r\n' "$2" "$1"; }
+# head_for HOST TARGET [LINE] [METHOD]
+head_for() { printf '%s %s HTTP/1.1\r\nHost: %s\r\n%s\r\n' "${4:-GET}" "$2" "$1" "${3:+$3$'\r\n'}"; }
 
 expect 0 'forward r@file http://127.0.0.1:9000' examples/first.toml < examples/first.request
 expect 0 'forward admin@file http://10.0.0.9:8080' examples/shop.toml < <(head_for shop.test /admin)
@@ -24,4 +27,38 @@ expect 0 'forward admin@file http://10.0.0.9:8080' examples/shop.toml < <(head_f
 expect 4 'request BadEscape' examples/shop.toml < <(head_for shop.test /%2)
 expect 3 'config NotToml' README.md < <(head_for shop.test /)
 expect 5 '' examples/no-such-file.toml < <(head_for shop.test /)
+
+# Each matcher, by the router that it names.
+rule() { expect 0 "forward $1@file http://10.0.0.1:8080" examples/rules.toml < <(shift; head_for "$@"); }
+rule host Host.Test. /
+rule host-pattern ab.pattern.test /
+rule path x.test /path
+rule path-prefix x.test /prefix/a
+rule path-prefix x.test /a/%2e%2e/prefi%78/a
+rule path-pattern x.test /items/17
+rule method x.test / '' OPTIONS
+rule field x.test / 'X-Group: testers'
+rule field-pattern x.test / 'User-Agent: SomeBot/1'
+rule pair x.test '/?a=b&mode=dark+blue'
+rule empty-pair x.test '/?debug'
+rule pair-pattern x.test '/?page=12'
+rule peer x.test /from-here
+rule all-of www.shop.test /cart/1
+rule quoted quoted.test / 'X-Mark: a "b" ` c'
+for target in / /paths /prefix /items/x '/?page=1234' /from-there; do
+  expect 0 '404' examples/rules.toml < <(head_for x.test "$target")
+done
+expect 0 '404' examples/rules.toml < <(head_for shop.test /cart '' TRACE)
+
+# Each option of a router.
+router() { expect 0 "forward $1@file $2" examples/routers.toml < <(head_for "$3" "$4"); }
+router at-web http://10.0.0.1:8080 a.test /
+router at-web http://10.0.0.1:8080 a.test /admin
+router by-priority http://10.0.0.2:80 a.test /up
+router last http://10.0.0.2:80 b.test /
+router watched http://10.0.0.1:8080 b.test /watched
+
+# Files that are read and not served yet.
+expect 3 'config Later' examples/services.toml < <(head_for site.test /)
+expect 3 'config Later' examples/middlewares.toml < <(head_for api.test /v1/)
 exit "$status"
