@@ -17,13 +17,13 @@ pub drive-requires-clause-told : goal.drive-requires-clause-told
 drive-requires-clause-told c =
     let same : c.index-conn.result.now ≡ c.requires.0 = indexed c.args.self.now.clients.conns.items c.args.place c.requires.0 c.index-conn.result.now c.requires.1 c.index-conn.ensures in
     let at : slice_get c.args.self.now.clients.conns.items c.args.place ≡ Some c.index-conn.result.now = c.requires.1 ∙ ap (λ (x : Conn). Some x) (sym same) in
-    (c.index-conn.result.now, at, subst (Waits stage.Walk) (sym same) c.requires.2, (c.in-Some.ensures, child_zero c.in-Pick.pick.child c.in-Pick.ensures.1.lawful.weighs))
+    (c.index-conn.result.now, at, subst (Waits stage.Walk) (sym same) c.requires.2, (c.in-Some.ensures.wants, child_zero c.in-Pick.pick.child c.in-Pick.ensures.1.lawful.weighs))
 
 pub drive-requires-in-Spent-clause-told : goal.drive-requires-in-Spent-clause-told
 drive-requires-in-Spent-clause-told c =
     let same : c.index-conn.result.now ≡ c.requires.0 = indexed c.args.self.now.clients.conns.items c.args.place c.requires.0 c.index-conn.result.now c.requires.1 c.index-conn.ensures in
     let at : slice_get c.args.self.now.clients.conns.items c.args.place ≡ Some c.index-conn.result.now = c.requires.1 ∙ ap (λ (x : Conn). Some x) (sym same) in
-    (c.index-conn.result.now, at, subst (Waits stage.Walk) (sym same) c.requires.2, c.in-Some.ensures)
+    (c.index-conn.result.now, at, subst (Waits stage.Walk) (sym same) c.requires.2, c.in-Some.ensures.wants)
 
 pub returns-in_ok-drive-in-Pick : goal.returns-in_ok-drive-in-Pick
 returns-in_ok-drive-in-Pick c =

@@ -14,3 +14,6 @@ returns-in-Some c = λ i x is.
     let conn_same : c.in-Some.ensures.0 ≡ x = some_same (slice_get c.args.self.now.clients.conns.items c.in-Some.place) c.in-Some.ensures.0 x c.in-Some.ensures.1.is_conn
         (subst (λ (k : ℕ). slice_get c.args.self.now.clients.conns.items k ≡ Some x) place_same is.is_conn) in
     ap length c.pending_on.ensures ∙ ap (λ (y : Conn). length (pending_on (c.args.link == y.client.link) y)) (same ∙ conn_same)
+
+pub returns-in-None : goal.returns-in-None
+returns-in-None c = λ i x is. absurd (c.in-None.ensures i x is)
