@@ -4,7 +4,6 @@ use Rattle.std.specs.declared.sync.Arc.{Arc}
 use Rattle.std.specs.declared.alloc.Global.{Global}
 use Rattle.std.specs.Arc.{arc_value}
 use Rattle.generation.specs.declared.generation.Generation.{Generation}
-
 use Rattle.system_core.specs.Answers.{Answers}
 use Rattle.system_core.specs.Views.{plans_of}
 use Rattle.system_core.specs.declared.event.Event.{Event}

@@ -125,8 +125,8 @@ pub data Step (old : Run) (text : List ℕ) (new : Run) (more : List ℕ) : Type
 abbrev pub FailsStep : Run → List ℕ → Failure → Type 0
 FailsStep run text (failure.Refused w) = (l more : List ℕ) × IsCut text l more × (l ≢ [])
     × ((((read : Line) → ¬ (IsLine l read)) × (w ≡ why.Grammar))
-      ⊎ (((read : Line) × IsLine l read × FailsLine run.system read (failure.Refused w))
-      ⊎ (IsLine l line.ConfigFile × FailsConfig run more (failure.Refused w))))
+    ⊎ (((read : Line) × IsLine l read × FailsLine run.system read (failure.Refused w))
+    ⊎ (IsLine l line.ConfigFile × FailsConfig run more (failure.Refused w))))
 FailsStep run text failure.Memory = Unit {0}
 
 -- line after line is told, and this is left of the text

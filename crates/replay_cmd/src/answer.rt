@@ -23,11 +23,7 @@ pub struct Answer {
 /// |---|---|
 /// | 0 | `published <n>`, what each link took, and the notes in order |
 /// | 4 | `script <line> <why>`: the first line that is refused |
-pub fn replay<S: PatternShop>(
-    alloc: Global,
-    script: &[u8],
-    shop: &mut S,
-) -> Result<Answer, Memory>
+pub fn replay<S: PatternShop>(alloc: Global, script: &[u8], shop: &mut S) -> Result<Answer, Memory>
     ensures told { IfOk result (λ a. Replayed script.now a.status a.text.items) }
     ensures apart { IfOk result (λ a. (a.status ≢ 5) × (a.status ≢ 6)) }
 {

@@ -78,7 +78,13 @@ fn rows(rt: HostRuntime) -> Result<(), Fail> {
     let alloc = rt.alloc();
     expect(&rt, alloc, ROW, 0, TEXT)?;
     failed(&rt, alloc)?;
-    expect(&rt, alloc, "\n\npublish\n", 4, "script 3 NotEnabled publish Idle\n")?;
+    expect(
+        &rt,
+        alloc,
+        "\n\npublish\n",
+        4,
+        "script 3 NotEnabled publish Idle\n",
+    )?;
     expect(&rt, alloc, "pin 0", 4, "script 1 NoSuchLink\n")?;
     expect(&rt, alloc, "tick 1\n", 4, "script 1 Later\n")?;
     expect(&rt, alloc, "|a\n", 4, "script 1 Grammar\n")
