@@ -52,7 +52,7 @@ ran_choice r old new i c step picks shown at aside links picks_are choice pins_a
     shows_told r old new i c step r.owners picks shown at aside d (ap (map owner_of) links ∙ shown.owners) picks_are (omega arith)
     (record { silent = choice.silent; pins_are = pins_are; quiet = λ l past. choice.quiet l; sound = λ l past. choice.sound l }) (choice.follows (steps_of i r.told))
     (subst (λ (ks : List Link). AllLinks ks (r.told ++ map (tells i) (step ∷ map (noting c.client.link) d.driven.notes))) (sym links)
-        (links_kept i c.client.link old.links.items r.told step d.driven.notes (λ l. ap taken (choice.quiet l)) shown.links))
+    (links_kept i c.client.link old.links.items r.told step d.driven.notes (λ l. ap taken (choice.quiet l)) shown.links))
 
 last_among : (ps : List Plan) (p : Plan) → IsLast ps p → Contains ps p
 last_among ps p l = subst (λ (xs : List Plan). Contains xs p) (sym l.1) (Contains-push l.0 p)
@@ -62,14 +62,14 @@ pub pins_at : (old new : System) (i : ℕ) (c : Conn) (p : Plan) → slice_get o
 pins_at old new i c p at aside links pops last d = λ r shown.
     let last' : IsLast r.plans p = (last.0, sym shown.plans ∙ last.1) in
     let told = ran_choice r old new i c (pinned p) r.picks shown at aside links (ap (map picked_of) pops ∙ shown.picks)
-        (record { silent = refl; quiet = λ l. refl; sound = λ l. refl; follows = λ steps. tt }) (last_among r.plans p last', tt) d in
+    (record { silent = refl; quiet = λ l. refl; sound = λ l. refl; follows = λ steps. tt }) (last_among r.plans p last', tt) d in
     (told.0, (p, last', told.1), told.2)
 
 pub looks_at : (old new : System) (i : ℕ) (c : Conn) (node : ℕ) → slice_get old.clients.conns.items i ≡ Some c → Aside old new → new.links.items ≡ old.links.items → new.pops.items ≡ old.pops.items
     → DrivenAt i c (looked (record { node = node; mask = 1 })) old.clients.conns.items new.clients.conns.items old.notes.items new.notes.items → RanAt LooksAt i old new
 looks_at old new i c node at aside links pops d = λ r shown.
     let told = ran_choice r old new i c (looked (record { node = node; mask = 1 })) r.picks shown at aside links (ap (map picked_of) pops ∙ shown.picks)
-        (record { silent = refl; quiet = λ l. refl; sound = λ l. refl; follows = λ steps. tt }) tt d in
+    (record { silent = refl; quiet = λ l. refl; sound = λ l. refl; follows = λ steps. tt }) tt d in
     (told.0, (node, told.1), told.2)
 
 -- a connection that waits for a pick was pinned last to the configuration of this number
@@ -81,10 +81,11 @@ pub pinned_last : (steps : List Step) (c : Conn) → Reached steps c → Waits s
 pinned_last steps c r w =
     let open_ : PhaseHolds Open steps c r.done r.last r.rest r.left r.kept.next = subst (λ (q : Phase). PhaseHolds q steps c r.done r.last r.rest r.left r.kept.next) w.phase r.phase in
     let at : AtStage stage.Walk c.client c.current c.input.items (pending_of c) r.done r.last r.rest =
-        subst (λ (s : Stage). AtStage s c.client c.current c.input.items (pending_of c) r.done r.last r.rest) w.stage open_.3 in
-    (at.turn.plan,
-     (flat_map pin_of r.done, r.kept.holds.pinned ∙ ap (λ (o : Option Turn). of_all pin_of r.done o) at.last_is),
-     tied_number c.current.pinned c.current (trail_of c) at.turn at.pinned (subst (λ (o : Option Turn). TiedBy c.current.pinned c.current (trail_of c) o) at.last_is r.kept.tied))
+    subst (λ (s : Stage). AtStage s c.client c.current c.input.items (pending_of c) r.done r.last r.rest) w.stage open_.3 in (
+      at.turn.plan,
+      (flat_map pin_of r.done, r.kept.holds.pinned ∙ ap (λ (o : Option Turn). of_all pin_of r.done o) at.last_is),
+      tied_number c.current.pinned c.current (trail_of c) at.turn at.pinned (subst (λ (o : Option Turn). TiedBy c.current.pinned c.current (trail_of c) o) at.last_is r.kept.tied),
+    )
 
 -- what was drawn for it
 pub draws_at : (old new : System) (i node count : ℕ) (c : Conn) (result_ : Drawn) (step : Step) (picks : List Picked) → slice_get old.clients.conns.items i ≡ Some c → Waits stage.Walk c → Aside old new
@@ -96,24 +97,25 @@ pub draws_at : (old new : System) (i node count : ℕ) (c : Conn) (result_ : Dra
 draws_at old new i node count c result_ step picks at waits aside links pops_are count_is draws choice no_pin tells_it d = λ r shown.
     let last = pinned_last (steps_of i r.told) c (shown.conns i c at).reached waits in
     let told = ran_choice r old new i c step (r.picks ++ picks) shown at aside links (pops_are ∙ ap (λ t. t ++ picks) shown.picks) choice
-        (subst (λ (ps : List Plan). AllByRecursion (Contains r.plans) ps) (sym no_pin) tt) d in
-    (told.0,
-     record {
-       plan = last.0;
-       pinned = last.1;
-       node = node;
-       result_ = result_;
-       draws = subst (λ (n : ℕ). Draws one_server 1 n result_) (count_is ∙ ap (λ (ps : List Picked). pops c.current.number node ps) shown.picks ∙ ap (λ (n : ℕ). pops n node r.picks) (sym last.2)) draws;
-       does = tells_it r told.0 last.0 (sym shown.picks) last.2 told.1;
-     },
-     told.2)
+    (subst (λ (ps : List Plan). AllByRecursion (Contains r.plans) ps) (sym no_pin) tt) d in (
+      told.0,
+      record {
+        plan = last.0;
+        pinned = last.1;
+        node = node;
+        result_ = result_;
+        draws = subst (λ (n : ℕ). Draws one_server 1 n result_) (count_is ∙ ap (λ (ps : List Picked). pops c.current.number node ps) shown.picks ∙ ap (λ (n : ℕ). pops n node r.picks) (sym last.2)) draws;
+        does = tells_it r told.0 last.0 (sym shown.picks) last.2 told.1;
+      },
+      told.2,
+    )
 
 -- one connection more is told of the stop
 pub stops_at : (old new : System) (i : ℕ) (c : Conn) → slice_get old.clients.conns.items i ≡ Some c → Aside old new → new.links.items ≡ old.links.items → new.pops.items ≡ old.pops.items
     → DrivenAt i c stopped old.clients.conns.items new.clients.conns.items old.notes.items new.notes.items → Stopping old new
 stops_at old new i c at aside links pops d = λ r shown.
     let told = ran_choice r old new i c stopped r.picks shown at aside links (ap (map picked_of) pops ∙ shown.picks)
-        (record { silent = refl; quiet = λ l. refl; sound = λ l. refl; follows = λ steps. tt }) tt d in
+    (record { silent = refl; quiet = λ l. refl; sound = λ l. refl; follows = λ steps. tt }) tt d in
     (told.0, more r r told.0 i (none r) told.1, told.2)
 
 pub stops_none : (s : System) → Stopping s s
@@ -138,29 +140,35 @@ dials_at old new i link c k to at aside link_is links owner to_is sent pops d = 
     let count : length old.links.items ≡ length r.owners = links_count r old shown in
     let step : Step = happened (length old.links.items) (dialled to.host to.port) in
     let d' : DrivenAt i c (happened (length old.links.items) (dialled to.host to.port)) old.clients.conns.items new.clients.conns.items old.notes.items new.notes.items =
-        subst (λ (l : ℕ). DrivenAt i c (happened l (dialled to.host to.port)) old.clients.conns.items new.clients.conns.items old.notes.items new.notes.items) link_is d in
+    subst (λ (l : ℕ). DrivenAt i c (happened l (dialled to.host to.port)) old.clients.conns.items new.clients.conns.items old.notes.items new.notes.items) link_is d in
     let fresh : IsNew (length old.links.items) (steps_of i r.told) = shown.fresh (length old.links.items) i (omega (arith, count)) in
     let grown : length (r.owners ++ i ∷ []) ≡ length r.owners + 1 = length-append r.owners (i ∷ []) in
     let told = shows_told r old new i c step (r.owners ++ i ∷ []) r.picks shown at aside d'
-        (ap (map owner_of) links ∙ map-append owner_of old.links.items (k ∷ []) ∙ ap (λ t. t ++ owner_of k ∷ []) shown.owners ∙ ap (λ (x : ℕ). r.owners ++ x ∷ []) owner)
-        (ap (map picked_of) pops ∙ shown.picks) (omega (arith, grown))
-        (record { silent = refl; pins_are = tt; sound = λ l past. refl;
-            quiet = λ l past. ap (λ b. only_if b (dialled to.host to.port ∷ [])) (other_link l (length old.links.items) (λ same. let f : ⊥ = omega (arith, same, past, grown, count) in f)) })
-        fresh
-        (links_dialled i c.client.link old.links.items new.links.items k to r.told d'.driven.notes links owner to_is sent
-            (client_apart r old i c (length old.links.items) shown at (omega (arith, count))) fresh shown.links) in
-    (told.0,
-     (to.host, to.port, subst (λ (l : ℕ). Tells (record r { owners = r.owners ++ i ∷ [] }) i (happened l (dialled to.host to.port)) told.0) count told.1),
-     told.2)
+    (ap (map owner_of) links ∙ map-append owner_of old.links.items (k ∷ []) ∙ ap (λ t. t ++ owner_of k ∷ []) shown.owners ∙ ap (λ (x : ℕ). r.owners ++ x ∷ []) owner)
+    (ap (map picked_of) pops ∙ shown.picks) (omega (arith, grown))
+    (record {
+      silent = refl;
+      pins_are = tt;
+      sound = λ l past. refl;
+      quiet = λ l past. ap (λ b. only_if b (dialled to.host to.port ∷ [])) (other_link l (length old.links.items) (λ same. let f : ⊥ = omega (arith, same, past, grown, count) in f));
+    })
+    fresh
+    (links_dialled i c.client.link old.links.items new.links.items k to r.told d'.driven.notes links owner to_is sent
+    (client_apart r old i c (length old.links.items) shown at (omega (arith, count))) fresh shown.links) in (
+      told.0,
+      (to.host, to.port, subst (λ (l : ℕ). Tells (record r { owners = r.owners ++ i ∷ [] }) i (happened l (dialled to.host to.port)) told.0) count told.1),
+      told.2,
+    )
 
 -- what is done at the place of a client's link is done for it
 pub does_at : (At : Records → ℕ → Records → Type 0) (old new : System) (link i : ℕ) (c : Conn) → IsConnOf old link i c → link ≡ c.client.link → RanAt At i old new
     → (r : Records) → Shows r old → (s : Records) × Does At r link s × Shows s new
 does_at At old new link i c is own ran r shown =
-    let done = ran r shown in
-    (done.0,
-     record { place = i; owned = (owner_at r old link is.kept shown is.is_link ∙ ap Some (sym is.is_place), client_at r old i c shown is.is_conn ∙ ap Some (sym own)); does = done.1 },
-     done.2)
+    let done = ran r shown in (
+      done.0,
+      record { place = i; owned = (owner_at r old link is.kept shown is.is_link ∙ ap Some (sym is.is_place), client_at r old i c shown is.is_conn ∙ ap Some (sym own)); does = done.1 },
+      done.2,
+    )
 
 -- the one server of a balancer is its child 0
 pub child_zero : (n : ℕ) → 0 < weight_of one_server n → n ≡ 0
@@ -171,9 +179,9 @@ child_zero (suc (suc n)) h = absurd (omega (arith, h))
 -- none of the first is open
 pub closed_more : (conns : List Conn) (n : ℕ) → AreClosed n conns → IsClosedAt n conns → AreClosed (n + 1) conns
 closed_more conns n all one = λ i low. elim (same_or_not i n) as (λ _. IsClosedAt i conns) [
-    inr d ↦ all i (omega (arith, low, d))
+  | inr d ↦ all i (omega (arith, low, d))
   | inl e ↦ subst (λ (k : ℕ). IsClosedAt k conns) (sym e) one
-  ]
+]
 
 pub closed_set : (conns : List Conn) (n : ℕ) (x : Conn) → AreClosed n conns → AreClosed n (set conns n x)
 closed_set conns n x all = λ i low c at o. all i low c (sym (get_set_other conns n i x (λ e. let f : ⊥ = omega (arith, e, low) in f)) ∙ at) o

@@ -130,14 +130,15 @@ ran_came old new link k entry peer aside link_is came_at links owner to_is sent 
     conn_told : (r : Records) → Shows r old → link ≡ length r.owners → steps_of (length r.clients) r.told ≡ [] → (i : ℕ) (c : Conn) → slice_get (old.clients.conns.items ++ came_at.conn ∷ []) i ≡ Some c
         → IsConn (steps_of i (r.told ++ map (tells (length r.clients)) (happened (length r.owners) (came entry peer) ∷ []))) c
     conn_told r shown here born i c at = elim (get_pushed old.clients.conns.items i came_at.conn c at) as (λ _. IsConn (steps_of i (r.told ++ map (tells (length r.clients)) (happened (length r.owners) (came entry peer) ∷ []))) c) [
-        inl g ↦ rw (steps_other i (length r.clients) r.told (happened (length r.owners) (came entry peer) ∷ [])
-            (λ e. let w : i < length old.clients.conns.items = get_within old.clients.conns.items i c g in let f : ⊥ = omega (arith, e, w, conns_count r old shown) in f)) (shown.conns i c g)
+      | inl g ↦ rw (steps_other i (length r.clients) r.told (happened (length r.owners) (came entry peer) ∷ [])
+          (λ e. let w : i < length old.clients.conns.items = get_within old.clients.conns.items i c g in let f : ⊥ = omega (arith, e, w, conns_count r old shown) in f)) (shown.conns i c g)
       | inr h ↦ subst (λ (n : ℕ). IsConn (steps_of n (r.told ++ map (tells (length r.clients)) (happened (length r.owners) (came entry peer) ∷ []))) c) (sym (h.0 ∙ conns_count r old shown))
           (rw (steps_same (length r.clients) r.told (happened (length r.owners) (came entry peer) ∷ []))
           (subst (λ (xs : List Step). IsConn (xs ++ happened (length r.owners) (came entry peer) ∷ []) c) (sym born)
           (subst (λ (x : Conn). IsConn (happened (length r.owners) (came entry peer) ∷ []) x) (sym h.1)
           (subst (λ (n : ℕ). IsConn (happened n (came entry peer) ∷ []) came_at.conn) here (record { reached = came_at.reached; prompt = came_at.prompt; drained = came_at.drained })))))
-      ]
+    ]
+
     link_told : (r : Records) → Shows r old → (l i : ℕ) → length (r.owners ++ length r.clients ∷ []) ≤ l
         → IsNew l (steps_of i (r.told ++ map (tells (length r.clients)) (happened (length r.owners) (came entry peer) ∷ [])))
     link_told r shown l i past =
@@ -145,25 +146,27 @@ ran_came old new link k entry peer aside link_is came_at links owner to_is sent 
         let past' : length r.owners ≤ l = omega (arith, past, grown) in
         let apart : l ≢ length r.owners = λ e. let f : ⊥ = omega (arith, e, past, grown) in f in
         elim (same_or_not i (length r.clients)) as (λ _. IsNew l (steps_of i (r.told ++ map (tells (length r.clients)) (happened (length r.owners) (came entry peer) ∷ [])))) [
-            inr n ↦ rw (steps_other i (length r.clients) r.told (happened (length r.owners) (came entry peer) ∷ []) n) (shown.fresh l i past')
+          | inr n ↦ rw (steps_other i (length r.clients) r.told (happened (length r.owners) (came entry peer) ∷ []) n) (shown.fresh l i past')
           | inl same ↦ subst (λ (x : ℕ). IsNew l (steps_of x (r.told ++ map (tells (length r.clients)) (happened (length r.owners) (came entry peer) ∷ [])))) (sym same)
               (rw (steps_same (length r.clients) r.told (happened (length r.owners) (came entry peer) ∷ []))
               (new_did l (length r.owners) (steps_of (length r.clients) r.told) (happened (length r.owners) (came entry peer)) [] apart
-                (ap (λ b. only_if b (came entry peer ∷ [])) (other_link l (length r.owners) apart)) refl (shown.fresh l (length r.clients) past')))
-          ]
+              (ap (λ b. only_if b (came entry peer ∷ [])) (other_link l (length r.owners) apart)) refl (shown.fresh l (length r.clients) past')))
+        ]
+
     unborn_told : (r : Records) → Shows r old → (i : ℕ) → length (r.clients ++ length r.owners ∷ []) ≤ i
         → steps_of i (r.told ++ map (tells (length r.clients)) (happened (length r.owners) (came entry peer) ∷ [])) ≡ []
     unborn_told r shown i past =
         let grown : length (r.clients ++ length r.owners ∷ []) ≡ length r.clients + 1 = length-append r.clients (length r.owners ∷ []) in
         steps_other i (length r.clients) r.told (happened (length r.owners) (came entry peer) ∷ []) (λ e. let f : ⊥ = omega (arith, e, past, grown) in f)
         ∙ shown.unborn i (omega (arith, past, grown))
+
     pins_told : (r : Records) → Shows r old → (i : ℕ) → AllByRecursion (Contains r.plans) (pins (steps_of i (r.told ++ map (tells (length r.clients)) (happened (length r.owners) (came entry peer) ∷ []))))
     pins_told r shown i = elim (same_or_not i (length r.clients)) as (λ _. AllByRecursion (Contains r.plans) (pins (steps_of i (r.told ++ map (tells (length r.clients)) (happened (length r.owners) (came entry peer) ∷ []))))) [
-        inr n ↦ rw (steps_other i (length r.clients) r.told (happened (length r.owners) (came entry peer) ∷ []) n) (shown.pinned i)
+      | inr n ↦ rw (steps_other i (length r.clients) r.told (happened (length r.owners) (came entry peer) ∷ []) n) (shown.pinned i)
       | inl same ↦ subst (λ (x : ℕ). AllByRecursion (Contains r.plans) (pins (steps_of x (r.told ++ map (tells (length r.clients)) (happened (length r.owners) (came entry peer) ∷ []))))) (sym same)
           (rw (steps_same (length r.clients) r.told (happened (length r.owners) (came entry peer) ∷ []))
           (pins_more (Contains r.plans) (length r.owners) (steps_of (length r.clients) r.told) (happened (length r.owners) (came entry peer)) [] (shown.pinned (length r.clients)) tt))
-      ]
+    ]
 
 pub waiting_some : (o : Option Plan) (Q : Plan → Type 0) → (o ≡ None → ⊥) → IfSome o Q → (p : Plan) × (o ≡ Some p) × Q p
 waiting_some None Q n h = absurd (n refl)

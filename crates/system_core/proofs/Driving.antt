@@ -137,15 +137,15 @@ after_within event.Stop m n a b = b
 
 pub none_above : (conns : List Conn) (i n : ℕ) (x : Conn) → x.current.number ≤ n → NoneAbove conns n → NoneAbove (set conns i x) n
 none_above conns i n x below all = λ j d g. elim (same_or_not j i) as (λ _. d.current.number ≤ n) [
-    inr apart ↦ all j d (sym (get_set_other conns i j x apart) ∙ g)
+  | inr apart ↦ all j d (sym (get_set_other conns i j x apart) ∙ g)
   | inl same ↦ subst (λ (y : Conn). y.current.number ≤ n) (sym (get_set_same conns i x d (ap (λ (k : ℕ). slice_get (set conns i x) k) (sym same) ∙ g))) below
-  ]
+]
 
 pub none_above_pushed : (conns : List Conn) (n : ℕ) (x : Conn) → x.current.number ≤ n → NoneAbove conns n → NoneAbove (conns ++ x ∷ []) n
 none_above_pushed conns n x below all = λ j d g. elim (get_pushed conns j x d g) as (λ _. d.current.number ≤ n) [
-    inl old ↦ all j d old
+  | inl old ↦ all j d old
   | inr last ↦ subst (λ (y : Conn). y.current.number ≤ n) (sym last.1) below
-  ]
+]
 
 pub none_above_more : (conns : List Conn) (n m : ℕ) → n ≤ m → NoneAbove conns n → NoneAbove conns m
 none_above_more conns n m up all = λ j d g. let h : d.current.number ≤ n = all j d g in omega arith

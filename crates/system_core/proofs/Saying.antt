@@ -115,11 +115,11 @@ ran_on old new i link c e is may aside pops t d = λ r shown.
     let before : t.before ≡ is.kept = some_same (slice_get old.links.items link) t.before is.kept t.is_before is.is_link in
     let owned : t.before.owner ≡ i = ap (λ (k : Link). k.owner) before ∙ sym is.is_place in
     let told = shows_told r old new i c (step_of c (told_on (link == c.client.link) link e)) r.owners r.picks shown is.is_conn aside d
-        (ap (map owner_of) t.links_are ∙ map_set owner_of old.links.items link t.before t.after t.is_before t.owner ∙ shown.owners)
-        (ap (map picked_of) pops ∙ shown.picks) (omega arith)
-        (plain_says r r.owners link e step within says) (follows_says link e step (steps_of i r.told) says)
-        (links_took link i c.client.link (taken_now (pending_on (link == c.client.link) c) e) old.links.items new.links.items r.told step d.driven.notes
-            (takes_step c link e (link == c.client.link) refl) t owned shown.links) in
+    (ap (map owner_of) t.links_are ∙ map_set owner_of old.links.items link t.before t.after t.is_before t.owner ∙ shown.owners)
+    (ap (map picked_of) pops ∙ shown.picks) (omega arith)
+    (plain_says r r.owners link e step within says) (follows_says link e step (steps_of i r.told) says)
+    (links_took link i c.client.link (taken_now (pending_on (link == c.client.link) c) e) old.links.items new.links.items r.told step d.driven.notes
+    (takes_step c link e (link == c.client.link) refl) t owned shown.links) in
     (told.0, record { place = i; owned = owner_at r old link is.kept shown is.is_link ∙ ap Some (sym is.is_place); step = step; says = says; does = told.1 }, told.2)
 
 -- what may happen on a link may be told

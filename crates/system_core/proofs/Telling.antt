@@ -66,51 +66,55 @@ pub shows_told : (r : Records) (old new : System) (i : ℕ) (c : Conn) (step : S
     → IsPlain r owners step → MayFollow step (steps_of i r.told)
     → AllLinks new.links.items (r.told ++ map (tells i) (step ∷ map (noting c.client.link) d.driven.notes))
     → (s : Records) × Tells (record r { owners = owners; picks = picks }) i step s × Shows s new
-shows_told r old new i c step owners picks shown at aside d owners_are picks_are grown plain follows links =
-    (with_told (record r { owners = owners; picks = picks }) i c.client.link step d.driven.notes,
-     record { client = c.client.link; is_client = client_at r old i c shown at; notes = d.driven.notes; same = refl },
-     record {
-       plans = ap plans_of aside.timeline ∙ shown.plans;
-       waiting = ap waiting_of aside.timeline ∙ shown.waiting;
-       clients = ap (map client_of) d.conns_are ∙ map_set client_of old.clients.conns.items i c d.after at (ap (λ (k : Client). k.link) d.driven.client) ∙ shown.clients;
-       owners = owners_are;
-       picks = picks_are;
-       notes = d.driven.kept ∙ ap (λ t. t ++ d.driven.notes) shown.notes ∙ sym (notes_did i c.client.link r.told step d.driven.notes plain.silent);
-       stopped = aside.stopped ∙ shown.stopped;
-       conns = λ j e g. conn_told j e (ap (λ xs. slice_get xs j) (sym d.conns_are) ∙ g);
-       links = links;
-       fresh = λ l j past. link_told l j past;
-       unborn = λ j past. unborn_told j past;
-       pinned = λ j. pins_told j;
-     })
+shows_told r old new i c step owners picks shown at aside d owners_are picks_are grown plain follows links = (
+  with_told (record r { owners = owners; picks = picks }) i c.client.link step d.driven.notes,
+  record { client = c.client.link; is_client = client_at r old i c shown at; notes = d.driven.notes; same = refl },
+  record {
+    plans = ap plans_of aside.timeline ∙ shown.plans;
+    waiting = ap waiting_of aside.timeline ∙ shown.waiting;
+    clients = ap (map client_of) d.conns_are ∙ map_set client_of old.clients.conns.items i c d.after at (ap (λ (k : Client). k.link) d.driven.client) ∙ shown.clients;
+    owners = owners_are;
+    picks = picks_are;
+    notes = d.driven.kept ∙ ap (λ t. t ++ d.driven.notes) shown.notes ∙ sym (notes_did i c.client.link r.told step d.driven.notes plain.silent);
+    stopped = aside.stopped ∙ shown.stopped;
+    conns = λ j e g. conn_told j e (ap (λ xs. slice_get xs j) (sym d.conns_are) ∙ g);
+    links = links;
+    fresh = λ l j past. link_told l j past;
+    unborn = λ j past. unborn_told j past;
+    pinned = λ j. pins_told j;
+  },
+)
   where
     conn_told : (j : ℕ) (e : Conn) → slice_get (set old.clients.conns.items i d.after) j ≡ Some e
         → IsConn (steps_of j (r.told ++ map (tells i) (step ∷ map (noting c.client.link) d.driven.notes))) e
     conn_told j e g = elim (same_or_not j i) as (λ _. IsConn (steps_of j (r.told ++ map (tells i) (step ∷ map (noting c.client.link) d.driven.notes))) e) [
-        inr n ↦ rw (steps_other j i r.told (step ∷ map (noting c.client.link) d.driven.notes) n) (shown.conns j e (sym (get_set_other old.clients.conns.items i j d.after n) ∙ g))
+      | inr n ↦ rw (steps_other j i r.told (step ∷ map (noting c.client.link) d.driven.notes) n) (shown.conns j e (sym (get_set_other old.clients.conns.items i j d.after n) ∙ g))
       | inl same ↦ subst (λ (x : ℕ). IsConn (steps_of x (r.told ++ map (tells i) (step ∷ map (noting c.client.link) d.driven.notes))) e) (sym same)
           (rw (steps_same i r.told (step ∷ map (noting c.client.link) d.driven.notes))
           (subst (λ (x : Conn). IsConn (steps_of i r.told ++ step ∷ map (noting c.client.link) d.driven.notes) x)
-            (sym (get_set_same old.clients.conns.items i d.after e (ap (λ (x : ℕ). slice_get (set old.clients.conns.items i d.after) x) (sym same) ∙ g)))
-            (record { reached = d.driven.reached (steps_of i r.told) follows (shown.conns i c at).reached; prompt = d.driven.prompt (shown.conns i c at).prompt; drained = d.driven.drained })))
-      ]
+          (sym (get_set_same old.clients.conns.items i d.after e (ap (λ (x : ℕ). slice_get (set old.clients.conns.items i d.after) x) (sym same) ∙ g)))
+          (record { reached = d.driven.reached (steps_of i r.told) follows (shown.conns i c at).reached; prompt = d.driven.prompt (shown.conns i c at).prompt; drained = d.driven.drained })))
+    ]
+
     link_told : (l j : ℕ) → length owners ≤ l → IsNew l (steps_of j (r.told ++ map (tells i) (step ∷ map (noting c.client.link) d.driven.notes)))
     link_told l j past =
         let past' : length r.owners ≤ l = omega arith in
         elim (same_or_not j i) as (λ _. IsNew l (steps_of j (r.told ++ map (tells i) (step ∷ map (noting c.client.link) d.driven.notes)))) [
-            inr n ↦ rw (steps_other j i r.told (step ∷ map (noting c.client.link) d.driven.notes) n) (shown.fresh l j past')
+          | inr n ↦ rw (steps_other j i r.told (step ∷ map (noting c.client.link) d.driven.notes) n) (shown.fresh l j past')
           | inl same ↦ subst (λ (x : ℕ). IsNew l (steps_of x (r.told ++ map (tells i) (step ∷ map (noting c.client.link) d.driven.notes)))) (sym same)
               (rw (steps_same i r.told (step ∷ map (noting c.client.link) d.driven.notes))
               (new_did l c.client.link (steps_of i r.told) step d.driven.notes (client_apart r old i c l shown at past') (plain.quiet l past) (plain.sound l past) (shown.fresh l i past')))
-          ]
+        ]
+
     unborn_told : (j : ℕ) → length r.clients ≤ j → steps_of j (r.told ++ map (tells i) (step ∷ map (noting c.client.link) d.driven.notes)) ≡ []
     unborn_told j past =
         let w : i < length r.clients = omega (arith, get_within old.clients.conns.items i c at, conns_count r old shown) in
         steps_other j i r.told (step ∷ map (noting c.client.link) d.driven.notes) (λ e. let f : ⊥ = omega (arith, e) in f) ∙ shown.unborn j past
+
     pins_told : (j : ℕ) → AllByRecursion (Contains r.plans) (pins (steps_of j (r.told ++ map (tells i) (step ∷ map (noting c.client.link) d.driven.notes))))
     pins_told j = elim (same_or_not j i) as (λ _. AllByRecursion (Contains r.plans) (pins (steps_of j (r.told ++ map (tells i) (step ∷ map (noting c.client.link) d.driven.notes))))) [
-        inr n ↦ rw (steps_other j i r.told (step ∷ map (noting c.client.link) d.driven.notes) n) (shown.pinned j)
+      | inr n ↦ rw (steps_other j i r.told (step ∷ map (noting c.client.link) d.driven.notes) n) (shown.pinned j)
       | inl same ↦ subst (λ (x : ℕ). AllByRecursion (Contains r.plans) (pins (steps_of x (r.told ++ map (tells i) (step ∷ map (noting c.client.link) d.driven.notes))))) (sym same)
           (rw (steps_same i r.told (step ∷ map (noting c.client.link) d.driven.notes))
           (pins_more (Contains r.plans) c.client.link (steps_of i r.told) step d.driven.notes (shown.pinned i) plain.pins_are))
-      ]
+    ]

@@ -116,7 +116,8 @@ impl System {
         let to = authority_of(alloc, aim)?;
         let link = self.next_link()?;
         self.links.reserve(1)?;
-        self.clients.drive(alloc, owner, ConnEvent::Dialled { link }, &mut self.notes)?;
+        self.clients
+            .drive(alloc, owner, ConnEvent::Dialled { link }, &mut self.notes)?;
         self.links.push_reserved(Link {
             owner,
             to: Some(to),

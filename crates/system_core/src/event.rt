@@ -52,14 +52,9 @@ pub enum Kind {
 /// Why an event is refused.
 #[derive(Clone, Copy, Debug, PartialEq, Eq)]
 pub enum Refused {
-    NoSuchLink {
-        link: u32,
-    },
+    NoSuchLink { link: u32 },
     /// It may not come in this state of its connection, or, where it is of no connection, in `Idle`.
-    NotEnabled {
-        kind: Kind,
-        state: StateName,
-    },
+    NotEnabled { kind: Kind, state: StateName },
     Memory,
 }
 

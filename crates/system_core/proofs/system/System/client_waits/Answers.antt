@@ -10,13 +10,18 @@ use Rattle.system_core.proofs.system.System.client_waits.Goals as goal
 pub returns-then-not-may_be_done : goal.returns-then-not-may_be_done
 returns-then-not-may_be_done c =
     let same : c.index-conn.result.now ≡ c.in-Some.ensures.0 =
-        indexed c.args.self.now.clients.conns.items c.in-Some.place c.in-Some.ensures.0 c.index-conn.result.now c.in-Some.ensures.1.is_conn c.index-conn.ensures in
-    (c.in-Some.place, c.in-Some.ensures.0, c.in-Some.ensures.1,
-     (λ (may : MayBeDone c.args.link c.args.shape c.in-Some.ensures.0). not_true (c.if-not-may_be_done.ensures.1 (subst (λ (x : Conn). MayBeDone c.args.link c.args.shape x) (sym same) may))),
-     ap (λ (k : EventKind). kinds.Conn k) c.kind.ensures, c.state.ensures ∙ ap state_of same, refl)
+    indexed c.args.self.now.clients.conns.items c.in-Some.place c.in-Some.ensures.0 c.index-conn.result.now c.in-Some.ensures.1.is_conn c.index-conn.ensures in (
+      c.in-Some.place,
+      c.in-Some.ensures.0,
+      c.in-Some.ensures.1,
+      (λ (may : MayBeDone c.args.link c.args.shape c.in-Some.ensures.0). not_true (c.if-not-may_be_done.ensures.1 (subst (λ (x : Conn). MayBeDone c.args.link c.args.shape x) (sym same) may))),
+      ap (λ (k : EventKind). kinds.Conn k) c.kind.ensures,
+      c.state.ensures ∙ ap state_of same,
+      refl,
+    )
 
 pub returns : goal.returns
 returns c =
     let same : c.index-conn.result.now ≡ c.in-Some.ensures.0 =
-        indexed c.args.self.now.clients.conns.items c.in-Some.place c.in-Some.ensures.0 c.index-conn.result.now c.in-Some.ensures.1.is_conn c.index-conn.ensures in
+    indexed c.args.self.now.clients.conns.items c.in-Some.place c.in-Some.ensures.0 c.index-conn.result.now c.in-Some.ensures.1.is_conn c.index-conn.ensures in
     (c.in-Some.ensures.0, c.in-Some.ensures.1, subst (λ (x : Conn). MayBeDone c.args.link c.args.shape x) same (c.if-not-may_be_done.ensures.0 refl))

@@ -6,7 +6,7 @@ use Rattle.system_core.proofs.system.System.place_of.Goals as goal
 pub returns : goal.returns
 returns c =
     let at : slice_get c.args.self.now.links.items c.args.link ≡ Some c.index.result.now =
-        get_at c.args.self.now.links.items c.args.link c.index.result.now (omega (arith, c.args.self.now.links.ok)) (sym c.index.ensures) in
+    get_at c.args.self.now.links.items c.args.link c.index.result.now (omega (arith, c.args.self.now.links.ok)) (sym c.index.ensures) in
     let one = some_at c.args.self.now.clients.conns.items c.index.result.now.owner (omega (arith, c.args.self.now.clients.conns.ok)) in
     (one.0, record { kept = c.index.result.now; is_link = at; is_place = refl; is_conn = one.1 })
 
@@ -18,7 +18,7 @@ returns-then-at-len c = λ i x is.
 pub returns-then-place-len : goal.returns-then-place-len
 returns-then-place-len c = λ i x is.
     let at : slice_get c.args.self.now.links.items c.args.link ≡ Some c.index.result.now =
-        get_at c.args.self.now.links.items c.args.link c.index.result.now (omega (arith, c.args.self.now.links.ok)) (sym c.index.ensures) in
+    get_at c.args.self.now.links.items c.args.link c.index.result.now (omega (arith, c.args.self.now.links.ok)) (sym c.index.ensures) in
     let h : i < length c.args.self.now.clients.conns.items = get_within c.args.self.now.clients.conns.items i x is.is_conn in
     let e : i ≡ c.index.result.now.owner = is.is_place ∙ ap (λ (k : Link). k.owner) (some_same (slice_get c.args.self.now.links.items c.args.link) is.kept c.index.result.now is.is_link at) in
     omega (arith, c.args.self.now.clients.conns.ok)

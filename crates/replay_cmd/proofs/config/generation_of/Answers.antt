@@ -1,0 +1,24 @@
+use Rattle.std.proofs.Common.{refl}
+use Rattle.replay_cmd.proofs.Telling.{not_true}
+use Rattle.replay_cmd.proofs.config.generation_of.Goals as goal
+
+pub returns-then-is_empty : goal.returns-then-is_empty
+returns-then-is_empty g c = (c.args.config, c.requires, c.if-is_empty.ensures.0 refl)
+
+pub returns-in-Generation : goal.returns-in-Generation
+returns-in-Generation g c =
+    let built = rw c.in-Generation.is at c.in_ok-generation.ensures in
+    record {
+      config = c.args.config;
+      is_config = c.requires;
+      some = λ e. not_true (c.if-is_empty.ensures.1 e);
+      merged = c.in_ok-merged.merged;
+      is_merged = (c.empty_config.result, c.empty_config.ensures, c.in_ok-merged.ensures);
+      form = built.0;
+      is_of = built.1;
+    }
+
+pub returns : goal.returns
+returns g c =
+    let built = rw c.in-Later.is at c.in_ok-generation.ensures in
+    (c.args.config, c.in_ok-merged.merged, c.requires, (c.empty_config.result, c.empty_config.ensures, c.in_ok-merged.ensures), built)

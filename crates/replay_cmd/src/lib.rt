@@ -1,0 +1,13 @@
+//! The command `replay`: what a system makes of a script of events.
+#![tactic(auto)]
+
+mod answer;
+mod config;
+mod cut;
+mod output;
+mod run;
+#[cfg(test)]
+mod tests;
+mod why;
+
+pub use answer::{Answer, replay};
