@@ -1,5 +1,5 @@
 -- What a head says, from what a scan of it and its request say.
-use Rattle.std.proofs.Common.{◌≡◌, ◌≢◌, ℕ, ◌<◌, ◌≤◌, ◌-◌, ◌⊎◌, inl, inr, List, [], ◌∷◌, length, take, drop, map, codes, Option, refl, sym, ap, ◌∙◌, subst, arith}
+use Rattle.std.proofs.Common.{◌≡◌, ◌≢◌, ℕ, ◌<◌, ◌≤◌, ◌⊎◌, inl, inr, List, [], ◌∷◌, length, take, drop, codes, refl, sym, ap, ◌∙◌, subst, arith}
 use Rattle.std.proofs.lemmas.List.{length-drop, drop_all}
 use Rattle.httparse.specs.Grammar.{RequestHead}
 use Rattle.httparse.specs.Spans.{span_bytes}
@@ -20,7 +20,7 @@ use Rattle.http_wire.specs.declared.message.Request.{Request}
 use Rattle.http_wire.specs.declared.requests.HeadFault.{HeadFault}
 use Rattle.rule_eval.specs.Pairs.{query_pairs}
 use Rattle.rule_eval.specs.Truth.{Asked}
-use Rattle.route_cmd.specs.Requests.{fields_of, HasFault, IsFaultless, IsLater, IsAsked, asked_by, query_bytes}
+use Rattle.route_cmd.specs.Requests.{fields_of, HasFault, IsFaultless, IsLater, IsAsked, query_bytes}
 use Rattle.route_cmd.specs.Parts.{IsLaterBy}
 
 -- the parts that a scan found are those of the head

@@ -1,13 +1,13 @@
 -- The service of an enabled row is declared.
-use Rattle.std.proofs.Common.{◌≡◌, ℕ, zero, suc, ◌<◌, true, false, Bool, List, [], ◌∷◌, length, map, get_or, slice_get, Some, None, Option, Any, refl, sym, ap, ◌∙◌, subst, arith, bytes_eq, cond, ◌||◌, inl, inr}
-use Rattle.std.specs.List.{list_any, filter}
-use Rattle.std.proofs.lemmas.Bool.{false≢true, or_cases, cases_Bool}
+use Rattle.std.proofs.Common.{◌≡◌, ℕ, zero, suc, true, false, Bool, List, [], ◌∷◌, map, get_or, slice_get, Some, None, Any, refl, sym, ap, ◌∙◌, subst, arith, bytes_eq, cond, ◌||◌, inl, inr}
+use Rattle.std.specs.List.{filter}
+use Rattle.std.proofs.lemmas.Bool.{false≢true, or_cases}
 use Rattle.std.proofs.lemmas.Slice.Eq.{bytes_eq-Decides}
 use Rattle.std.proofs.lemmas.Option.{slice_get-get_or, slice_get_within}
 use Rattle.dyn_config.specs.declared.merged.Entry.{Entry}
 use Rattle.dyn_config.specs.declared.merged.Merged.{Merged}
 use Rattle.dyn_config.specs.declared.service.ServiceDef.{ServiceDef}
-use Rattle.router_table.specs.Settings.{Setting, RouterEntry, is_listed, service_of, setting_of}
+use Rattle.router_table.specs.Settings.{RouterEntry, is_listed, service_of, setting_of}
 use Rattle.router_table.specs.Rows.{AreRows, IsState}
 use Rattle.router_table.specs.declared.row.RouterState.{RouterState}
 use Rattle.router_table.specs.declared.row.RouterState.TheVariants.{Enabled, Disabled}

@@ -1,5 +1,5 @@
 -- What `route` answers: its status and its text, by what its words say, the file and the input.
-use Rattle.std.specs.Prelude.{◌≡◌, ◌≢◌, ℕ, ◌<◌, ◌≤◌, List, [], ◌∷◌, ◌++◌, length, Contains, codes, Option, Some, None, IfSome, slice_get, Err, Ok, ⊤}
+use Rattle.std.specs.Prelude.{◌≡◌, ◌≢◌, ℕ, ◌<◌, ◌≤◌, List, [], ◌∷◌, ◌++◌, length, Contains, codes, Option, Some, IfSome, slice_get, Err, Ok, ⊤}
 use Rattle.std.specs.Fmt.{decimal}
 use Rattle.httparse.specs.Grammar.{RequestHead, ReadsRequest, NeverHasRequest, MayBecomeRequest}
 use Rattle.head_view.specs.Lines.{line_feeds}

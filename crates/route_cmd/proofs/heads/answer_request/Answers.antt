@@ -1,4 +1,4 @@
-use Rattle.std.proofs.Common.{◌≡◌, ◌∙◌, List, take, drop, codes, refl, sym, ap, subst}
+use Rattle.std.proofs.Common.{◌∙◌, List, take, codes, refl, sym, ap, subst}
 use Rattle.std.proofs.lemmas.Bool.{false≢true}
 use Rattle.std.proofs.lemmas.Result.{IfOk-weaker}
 use Rattle.httparse.specs.Spans.{span_bytes}

@@ -1,4 +1,3 @@
-use Rattle.std.proofs.Common.{◌≡◌}
 use Rattle.std.proofs.lemmas.Result.{IfOk-weaker}
 use Rattle.rule_eval.specs.Truth.{asked_of}
 use Rattle.route_cmd.specs.Output.{forward}
