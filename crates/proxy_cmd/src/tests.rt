@@ -206,17 +206,30 @@ fn priorities(rt: &impl Abort, alloc: Global) -> Result<(), Fail> {
 
 // The entry point and the peer.
 fn options(rt: &impl Abort, alloc: Global) -> Result<(), Fail> {
-    let mut call = route(RULES.as_bytes(), HEAD.as_bytes());
-    call.words = &["route", "--peer=10.1.2.3", "c.toml", "--entry", "side"];
-    expect(
+    asked(
         rt,
         alloc,
-        call,
-        0,
+        &["route", "--peer=10.1.2.3", "c.toml", "--entry", "side"],
         "forward local@file http://[::1]:65535\n",
     )?;
-    call.words = &["route", "c.toml", "--peer", "10.1.2.3"];
-    expect(rt, alloc, call, 0, "404\n")
+    asked(
+        rt,
+        alloc,
+        &["route", "c.toml", "--peer", "10.1.2.3"],
+        "404\n",
+    )
+}
+
+fn asked(rt: &impl Abort, alloc: Global, words: &[&str], text: &str) -> Result<(), Fail> {
+    let call = Call {
+        words,
+        file: RULES.as_bytes(),
+        file_failing: &[],
+        input: HEAD.as_bytes(),
+        input_failing: &[],
+        out_failing: &[],
+    };
+    expect(rt, alloc, call, 0, text)
 }
 
 // Files that are no configuration.
