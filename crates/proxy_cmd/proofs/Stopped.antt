@@ -5,7 +5,7 @@ use Rattle.command_words.specs.declared.command.RoutePlan.{RoutePlan}
 use Rattle.route_cmd.specs.Output.{Stops}
 use Rattle.route_cmd.specs.declared.answer.Stop.{Stop}
 use Rattle.route_cmd.specs.declared.answer.Stop.TheVariants.{File, Input, Memory}
-use Rattle.proxy_cmd.specs.Output.{IsRoute, Unread, StopsWords, file_unread, input_unread}
+use Rattle.proxy_cmd.specs.Output.{IsRoute, IsReplay, Unread, StopsReplay, StopsWords, file_unread, input_unread, script_unread}
 
 -- what nobody touched is kept
 pub keeps_itself : (held : Option (List ℕ)) → Keeps held held
@@ -21,3 +21,14 @@ pub stops_words : {A : Type 0} (words : List (List ℕ)) (plan : RoutePlan) (fil
     → IfErr r (Stops file ff if_) → IfErr r (StopsWords words file ff if_)
 stops_words words plan file ff if_ (Ok a) w h = tt
 stops_words words plan file ff if_ (Err s) w h = stop_words words plan file ff if_ s w h
+
+-- the same of `replay`
+stop_script : (words : List (List ℕ)) (file : Option (List ℕ)) (ff if_ : Type 0) (s : Stop) → IsReplay words → StopsReplay if_ s → StopsWords words file ff if_ s
+stop_script words file ff if_ File w h = absurd h
+stop_script words file ff if_ Input w h = script_unread w h
+stop_script words file ff if_ Memory w h = tt
+
+pub stops_script : {A : Type 0} (words : List (List ℕ)) (file : Option (List ℕ)) (ff if_ : Type 0) (r : Result A Stop) → IsReplay words
+    → IfErr r (StopsReplay if_) → IfErr r (StopsWords words file ff if_)
+stops_script words file ff if_ (Ok a) w h = tt
+stops_script words file ff if_ (Err s) w h = stop_script words file ff if_ s w h

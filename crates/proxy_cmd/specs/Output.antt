@@ -5,11 +5,12 @@ use Rattle.px_base.specs.Bytes.{AppendsLess}
 use Rattle.dyn_config.specs.declared.merged.Merged.{Merged}
 use Rattle.service_graph.specs.Only.{IsFirstForm}
 use Rattle.command_words.specs.Commands.{IsCommand}
-use Rattle.command_words.specs.declared.command.Command.TheVariants.{Route}
+use Rattle.command_words.specs.declared.command.Command.TheVariants.{Route, Replay}
 use Rattle.command_words.specs.declared.command.RoutePlan.{RoutePlan}
-use Rattle.route_cmd.specs.Output.{line, RouteOutput, IsConfigured}
+use Rattle.route_cmd.specs.Output.{line, RouteOutput, IsConfigured, WasRead, IsOver}
 use Rattle.route_cmd.specs.declared.answer.Stop.{Stop}
 use Rattle.route_cmd.specs.declared.answer.Stop.TheVariants.{File, Input, Memory}
+use Rattle.replay_cmd.specs.Replays.{Replayed}
 
 -- how the program is called
 abbrev pub usage_text : List ℕ
@@ -25,16 +26,37 @@ usage_text =
 abbrev pub IsRoute : List (List ℕ) → RoutePlan → Type 0
 IsRoute words plan = IsCommand words (Route plan)
 
+-- the words are those of `replay`
+abbrev pub IsReplay : List (List ℕ) → Type 0
+IsReplay words = IsCommand words Replay
+
+-- how many bytes a script may have
+abbrev pub script_limit : ℕ
+script_limit = 4194304
+
+-- the answer of `replay` to what is left of the script's source
+pub data ReplayOutput (input : Option (List ℕ)) (status : ℕ) (text : List ℕ) : Type 0 where
+  long_script : IsOver input script_limit → status ≡ 8 → text ≡ line (codes "too long") → ReplayOutput input status text
+  replayed : (bytes : List ℕ) → WasRead input script_limit bytes → Replayed bytes status text → ReplayOutput input status text
+
 -- the answer to the words: the usage, or the command's. `old` and `new` are what the shop counted before and after.
 pub data Output (words : List (List ℕ)) (old new : ℕ) (file input : Option (List ℕ)) (status : ℕ) (text : List ℕ) : Type 0 where
-  usage : ((plan : RoutePlan) → ¬ (IsRoute words plan)) → status ≡ 2 → text ≡ usage_text → Output words old new file input status text
+  usage : ((plan : RoutePlan) → ¬ (IsRoute words plan)) → ¬ (IsReplay words) → status ≡ 2 → text ≡ usage_text → Output words old new file input status text
   route : (plan : RoutePlan) → IsRoute words plan → RouteOutput plan.entry plan.peer old new file input status text → Output words old new file input status text
+  replay : IsReplay words → ReplayOutput input status text → Output words old new file input status text
 
--- why there is no answer: the file's source failed; or, under a file that is fine, the input's did
+-- why there is no answer: the file's source failed; or, under a file that is fine, the input's did; or the script's did
 pub data Unread (words : List (List ℕ)) (file : Option (List ℕ)) (file_failed input_failed : Type 0) : Type 0 where
   file_unread : (plan : RoutePlan) → IsRoute words plan → file_failed → Unread words file file_failed input_failed
   input_unread : (plan : RoutePlan) → IsRoute words plan → (m : Merged) → IsConfigured file m → IsFirstForm m → input_failed
       → Unread words file file_failed input_failed
+  script_unread : IsReplay words → input_failed → Unread words file file_failed input_failed
+
+-- why `replay` has no answer: the script's source failed
+abbrev pub StopsReplay : Type 0 → Stop → Type 0
+StopsReplay input_failed File = ⊥
+StopsReplay input_failed Input = input_failed
+StopsReplay input_failed Memory = ⊤
 
 -- the same, of a command's stop
 abbrev pub StopsWords : List (List ℕ) → Option (List ℕ) → Type 0 → Type 0 → Stop → Type 0

@@ -1,15 +1,20 @@
 //! The commands that read a file and an input and write a text.
-ghost use Rattle.std.specs.Prelude.{◌≡◌, ◌≢◌, ◌⊎◌, IfOk, IfErr, map, string_bytes, true};
+ghost use Rattle.std.specs.Prelude.{◌≡◌, ◌≢◌, ◌⊎◌, IfOk, IfErr, map, string_bytes, codes, true};
 ghost use Rattle.px_base.specs.Bytes.{Rose};
-ghost use Rattle.route_cmd.specs.Output.{RouteOutput, Stops};
-ghost use Rattle.proxy_cmd.specs.Output.{Output, Unread, StopsWords, Ends};
+ghost use Rattle.route_cmd.specs.Output.{RouteOutput, Stops, line};
+ghost use Rattle.replay_cmd.specs.Replays.{Replayed};
+ghost use Rattle.proxy_cmd.specs.Output.{Output, ReplayOutput, Unread, StopsReplay, StopsWords, Ends};
 
 use crate::usage::usage_answer;
 use command_words::{Command, RoutePlan, WordFault, read_words};
-use px_base::{Sink, Source, write_all};
+use px_base::{Memory, ReadFault, Sink, Source, read_all, write_all};
+use replay_cmd::replay;
 use route_cmd::{Answer, Stop, answer_route};
 use rule_eval::PatternShop;
 use std::alloc::Global;
+
+/// The greatest length of a script of `replay`, in bytes.
+const MAX_SCRIPT: usize = 4_194_304;
 
 /// Runs an offline command over a file and an input, writes its text, and answers its status.
 ///
@@ -21,7 +26,7 @@ use std::alloc::Global;
 /// | 0 | the command was done, and its input read to the end |
 /// | 2 | the words are no command, or one that is not run here |
 /// | 3 | the file isn't a configuration, or one that isn't served yet |
-/// | 4 | the input isn't one whole request head that is routed |
+/// | 4 | the input isn't one whole request head that is routed, or a script with a line that is refused |
 /// | 5 | a source failed |
 /// | 6 | the sink failed |
 /// | 7 | memory ran out |
@@ -78,7 +83,7 @@ fn answer_words<C: Source, Q: Source, S: PatternShop>(
 {
     match read_words(alloc, words) {
         Ok(Command::Route(plan)) => answer_plan(alloc, &plan, config, input, shop),
-        Ok(Command::Replay) => Ok(usage_answer(alloc)?),
+        Ok(Command::Replay) => answer_script(alloc, input, shop),
         Ok(Command::Serve(_)) => Ok(usage_answer(alloc)?),
         Err(WordFault::NotACommand) => Ok(usage_answer(alloc)?),
         Err(WordFault::Memory) => Err(Stop::Memory),
@@ -101,4 +106,41 @@ fn answer_plan<C: Source, Q: Source, S: PatternShop>(
         (Rose (Q.faults input.old) (Q.faults input.new))) }
 {
     answer_route(alloc, plan.entry.as_slice(), plan.peer, config, input, shop)
+}
+
+// The answer of `replay` to a script.
+fn answer_script<Q: Source, S: PatternShop>(
+    alloc: Global,
+    input: &mut Q,
+    shop: &mut S,
+) -> Result<Answer, Stop>
+    ensures told { IfOk result (λ a. ReplayOutput (Q.left input.old) a.status a.text.items) }
+    ensures end { IfOk result (λ a. a.status ≡ 0 → Q.ended input.new ≡ true) }
+    ensures apart { IfOk result (λ a. (a.status ≢ 5) × (a.status ≢ 6)) }
+    ensures stop { IfErr result (StopsReplay (Rose (Q.faults input.old) (Q.faults input.new))) }
+{
+    match read_all(alloc, input, MAX_SCRIPT) {
+        Ok(script) => Ok(replayed(alloc, script.as_slice(), shop)?),
+        Err(ReadFault::TooLong) => Ok(too_long(alloc)?),
+        Err(ReadFault::Failed) => Err(Stop::Input),
+        Err(ReadFault::Memory) => Err(Stop::Memory),
+    }
+}
+
+fn replayed<S: PatternShop>(alloc: Global, script: &[u8], shop: &mut S) -> Result<Answer, Memory>
+    ensures told { IfOk result (λ a. Replayed script.now a.status a.text.items) }
+    ensures apart { IfOk result (λ a. (a.status ≢ 5) × (a.status ≢ 6)) }
+{
+    let answer = replay(alloc, script, shop)?;
+    Ok(Answer {
+        status: answer.status,
+        text: answer.text,
+    })
+}
+
+fn too_long(alloc: Global) -> Result<Answer, Memory>
+    ensures { IfOk result (λ a. (a.status ≡ 8) × (a.text.items ≡ line (codes "too long"))) }
+{
+    let text = Vec::from_slice(alloc, b"too long\n")?;
+    Ok(Answer { status: 8, text })
 }

@@ -1,7 +1,7 @@
 use Rattle.std.proofs.lemmas.Result.{IfOk-weaker}
-use Rattle.command_words.specs.declared.command.Command.TheVariants.{Route}
-use Rattle.proxy_cmd.specs.Output.{route, usage}
-use Rattle.proxy_cmd.proofs.Stopped.{stops_words}
+use Rattle.command_words.specs.declared.command.Command.TheVariants.{Route, Replay}
+use Rattle.proxy_cmd.specs.Output.{route, replay, usage}
+use Rattle.proxy_cmd.proofs.Stopped.{stops_words, stops_script}
 use Rattle.proxy_cmd.proofs.commands.answer_words.Goals as goal
 
 pub returns-in-Ok-Route-clause-told : goal.returns-in-Ok-Route-clause-told
@@ -17,4 +17,14 @@ returns-in-Ok-Route-clause-stop g c =
 pub returns-in-Err-NotACommand-clause-told : goal.returns-in-Err-NotACommand-clause-told
 returns-in-Err-NotACommand-clause-told g c =
     let never = c.in-Err-NotACommand.ensures c.in-Err-NotACommand.field-0-is in
-    usage (λ plan w. never (Route plan) w) c.in_ok-usage_answer-in-Err-NotACommand.ensures.0 c.in_ok-usage_answer-in-Err-NotACommand.ensures.1
+    usage (λ plan w. never (Route plan) w) (λ w. never Replay w) c.in_ok-usage_answer-in-Err-NotACommand.ensures.0 c.in_ok-usage_answer-in-Err-NotACommand.ensures.1
+
+pub returns-in-Ok-Replay-clause-told : goal.returns-in-Ok-Replay-clause-told
+returns-in-Ok-Replay-clause-told g c =
+    let is = rw c.in-Ok-Replay.field-0-is at c.in-Ok-Replay.ensures in
+    IfOk-weaker c.answer_script.result _ _ (λ a h. replay is h) c.answer_script.ensures.told
+
+pub returns-in-Ok-Replay-clause-stop : goal.returns-in-Ok-Replay-clause-stop
+returns-in-Ok-Replay-clause-stop g c =
+    let is = rw c.in-Ok-Replay.field-0-is at c.in-Ok-Replay.ensures in
+    stops_script _ _ _ _ c.answer_script.result is c.answer_script.ensures.stop
