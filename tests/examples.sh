@@ -61,4 +61,22 @@ router watched http://10.0.0.1:8080 b.test /watched
 # Files that are read and not served yet.
 expect 3 'config Later' examples/services.toml < <(head_for site.test /)
 expect 3 'config Later' examples/middlewares.toml < <(head_for api.test /v1/)
+
+# What `replay` answers to a script is written out here byte for byte.
+replayed=$(./proxy replay < examples/first.script) || status=1
+wanted='published 1
+link 0 sent HTTP/1.1 200 OK\r\nContent-Length: 2\r\n\r\nok
+link 1 to 127.0.0.1:9000 sent GET / HTTP/1.1\r\nHost: a.test\r\nX-Forwarded-For: 127.0.0.1\r\nX-Forwarded-Host: a.test\r\nX-Forwarded-Port: 80\r\nX-Forwarded-Proto: http\r\nX-Real-Ip: 127.0.0.1\r\nConnection: close\r\n\r\n
+note 0 1 gen 1 router 0 status 200 Passed looks 0:1 picks 0:0-1:0 turns - backs 1
+note 0 end Client'
+if [ "$replayed" != "$wanted" ]; then
+  echo "examples: replay answered '$replayed'"
+  status=1
+fi
+refused=0
+text=$(sed '10s/.*/pin 0\npin 0/' examples/first.script | ./proxy replay) || refused=$?
+if [ "$refused" != 4 ] || [ "$text" != 'script 11 NotEnabled pin Look' ]; then
+  echo "examples: a second pin answered '$text' with $refused"
+  status=1
+fi
 exit "$status"
