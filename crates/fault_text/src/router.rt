@@ -6,7 +6,7 @@ ghost use Rattle.fault_text.specs.Routers.{router_fault_text, rule_fault_text, c
 use px_base::{Memory, print_decimal};
 use router_table::RouterFault;
 use rule_eval::CompileFault;
-use rule_lang::whole::RuleFault;
+use rule_lang::RuleFault;
 
 /// Appends the text of a router's fault: its name, as `MissingService`, and what it tells, as `Rule Arity 0`. Where
 /// memory runs out, a part of it may stand there.

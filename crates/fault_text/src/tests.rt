@@ -4,7 +4,7 @@ use dyn_config::ConfigFault;
 use file_provider::FileFault;
 use px_base::Bytes;
 use router_table::RouterFault;
-use rule_lang::whole::RuleFault;
+use rule_lang::RuleFault;
 use std::test::Fail;
 
 #[test]

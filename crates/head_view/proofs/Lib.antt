@@ -1,4 +1,2 @@
-pub mod Hosts
 pub mod LineFeeds
-pub mod Slashes
 pub mod Values

@@ -2,18 +2,13 @@
 //! Bodies and the meaning of fields stand in the crates above.
 #![tactic(auto)]
 
-mod host;
-mod lines;
-mod plain;
 mod reply;
 mod scan;
-mod segments;
 #[cfg(test)]
 mod tests;
 mod views;
 
 pub use httparse::spans::{EMPTY_HEADER_SPAN, HeaderSpan, Span};
-pub use plain::{PlainRequest, read_plain};
 pub use reply::{ReplyScan, ReplySpans, scan_reply};
 pub use scan::{HeadSpans, Scan, scan_request};
 pub use views::{Fields, RequestView, view};

@@ -1,7 +1,5 @@
-//! Heads whole and in parts, views and plain requests.
-use crate::{
-    EMPTY_HEADER_SPAN, HeaderSpan, ReplyScan, Scan, read_plain, scan_reply, scan_request, view,
-};
+//! Heads whole and in parts, and views.
+use crate::{EMPTY_HEADER_SPAN, HeaderSpan, ReplyScan, Scan, scan_reply, scan_request, view};
 use std::alloc::{AllocError, Global};
 use std::process::Abort;
 use std::test::Fail;
@@ -34,7 +32,6 @@ fn many_lines(rt: &impl Abort, alloc: Global) -> Result<(), AllocError> {
     }
     text.extend_from_slice(b"\r\n")?;
     assert_eq!(rt; scan_of(&text), Scan::TooMany);
-    assert_eq!(rt; read_plain(&text).is_none(), true);
     Ok(())
 }
 
@@ -71,46 +68,6 @@ fn fields(rt: &impl Abort) {
     }
 }
 
-// The host of a plain request with this `Host` line, or nothing.
-fn is_plain_at(text: &[u8]) -> bool {
-    read_plain(text).is_some()
-}
-
-fn targets(rt: &impl Abort) {
-    let refused = [
-        is_plain_at(b"GET /a/../b HTTP/1.1\r\nHost: a\r\n\r\n"),
-        is_plain_at(b"GET /a/. HTTP/1.1\r\nHost: a\r\n\r\n"),
-        is_plain_at(b"GET /. HTTP/1.1\r\nHost: a\r\n\r\n"),
-        is_plain_at(b"GET /a%41 HTTP/1.1\r\nHost: a\r\n\r\n"),
-        is_plain_at(b"HEAD / HTTP/1.1\r\nHost: a\r\n\r\n"),
-        is_plain_at(b"GET / HTTP/1.1\r\nHost: a\r\n\r\nx"),
-    ];
-    assert_eq!(rt; refused, [false; 6]);
-    let taken = [
-        is_plain_at(b"GET /..a HTTP/1.1\r\nHost: a\r\n\r\n"),
-        is_plain_at(b"GET /a.. HTTP/1.1\r\nHost: a\r\n\r\n"),
-        is_plain_at(b"GET //... HTTP/1.1\r\nHost: a\r\n\r\n"),
-    ];
-    assert_eq!(rt; taken, [true; 3]);
-}
-
-fn hosts(rt: &impl Abort) {
-    match read_plain(b"POST /a/b HTTP/1.1\r\nHost: A.test.:80\r\n\r\n") {
-        Some(request) => {
-            assert_eq!(rt; request.host, b"A.test".as_slice());
-            assert_eq!(rt; request.target, b"/a/b".as_slice());
-        }
-        None => panic!(rt; "a plain request"),
-    }
-    let refused = [
-        is_plain_at(b"GET / HTTP/1.1\r\nHost: a:b\r\n\r\n"),
-        is_plain_at(b"GET / HTTP/1.1\r\nHost: a\r\nhost: a\r\n\r\n"),
-        is_plain_at(b"GET / HTTP/1.1\r\n\r\n"),
-        is_plain_at(b"GET / HTTP/1.1\r\nHost: a\r\nConnection: close\r\n\r\n"),
-    ];
-    assert_eq!(rt; refused, [false; 4]);
-}
-
 #[test]
 fn heads_and_views(rt: HostRuntime) -> Result<(), Fail> {
     heads(&rt);
@@ -118,10 +75,4 @@ fn heads_and_views(rt: HostRuntime) -> Result<(), Fail> {
     replies(&rt);
     fields(&rt);
     Ok(())
-}
-
-#[test]
-fn plain_requests(rt: HostRuntime) {
-    targets(&rt);
-    hosts(&rt);
 }

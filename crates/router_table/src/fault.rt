@@ -4,7 +4,7 @@ ghost use Rattle.router_table.specs.declared.fault.Refusal.TheVariants.{Memory a
 
 use px_base::Memory;
 use rule_eval::CompileFault;
-use rule_lang::whole::RuleFault;
+use rule_lang::RuleFault;
 
 /// Why a router is disabled: the first of these, in their order.
 #[derive(Clone, Copy, Debug, PartialEq, Eq)]

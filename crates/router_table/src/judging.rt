@@ -17,7 +17,7 @@ use crate::setting::Setting;
 use dyn_config::{Entry, RouterDef};
 use px_base::{Bytes, List, Memory};
 use rule_eval::{CompileFault, Compiled, PatternShop, compile, patterns};
-use rule_lang::whole::{Rule, RuleFault, read_rule};
+use rule_lang::{Rule, RuleFault, read_rule};
 use std::alloc::{AllocError, Global};
 
 /// The greatest priority that a router may have.

@@ -19,7 +19,7 @@ use crate::probe::{Probe, Search, Words};
 use crate::shop::PatternShop;
 use ip_net::read_net;
 use px_base::{Bytes, Memory};
-use rule_lang::whole::{Leaf, Matcher, Rule};
+use rule_lang::{Leaf, Matcher, Rule};
 use sqlite_items::Boxed;
 use std::alloc::Global;
 

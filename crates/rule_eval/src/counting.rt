@@ -3,7 +3,7 @@ ghost use Rattle.std.specs.Prelude.{◌≡◌, ◌-◌, ◌^◌, min};
 ghost use Rattle.rule_lang.specs.Trees.{tree_of};
 ghost use Rattle.rule_eval.specs.Calls.{pattern_count, has_pattern as is_matcher_of_pattern};
 
-use rule_lang::whole::{Matcher, Rule};
+use rule_lang::{Matcher, Rule};
 
 /// How many calls of the rule have a pattern; the number stays at 2^32 - 1 once it is there.
 pub fn patterns(rule: &Rule) -> u32

@@ -6,7 +6,7 @@ use crate::{
 use head_view::{EMPTY_HEADER_SPAN, Scan, scan_request, view};
 use ip_net::Ip;
 use px_base::Bytes;
-use rule_lang::whole::{Leaf, Matcher, Rule};
+use rule_lang::{Leaf, Matcher, Rule};
 use sqlite_items::Boxed;
 use std::alloc::Global;
 use std::process::Abort;

@@ -12,7 +12,7 @@ ghost use Rattle.rule_lang.specs.declared.call.CallFault.TheVariants.{Memory as 
 ghost use Rattle.rule_lang.specs.Builders.{layer_of, build_of, TokensStand, EndsRight, EndsWrong};
 
 use super::call::{CallFault, call_leaf};
-use super::whole::{Rule, Token, TokenKind};
+use crate::{Rule, Token, TokenKind};
 use px_base::Memory;
 use sqlite_items::Boxed;
 use std::alloc::Global;

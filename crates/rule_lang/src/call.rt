@@ -8,7 +8,7 @@ ghost use Rattle.rule_lang.specs.Values.{Stands, StandsAsValue, unescaped, token
 ghost use Rattle.rule_lang.specs.declared.call.CallFault.TheVariants.{Memory as CallWantsMemory};
 
 use super::matcher::matcher_of;
-use super::whole::{Leaf, Matcher, Token, TokenKind, takes_count, takes_key, takes_value};
+use crate::{Leaf, Matcher, Token, TokenKind, takes_count, takes_key, takes_value};
 use px_base::{Bytes, Memory};
 use std::alloc::Global;
 

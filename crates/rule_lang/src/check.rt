@@ -3,7 +3,7 @@ ghost use Rattle.std.specs.Prelude.{◌≡◌, ◌≢◌, ◌≤◌, ◌<◌, �
 ghost use Rattle.std.specs.List.{AllByRecursion};
 ghost use Rattle.rule_lang.specs.Matchers.{TakesCount, TakesKey, TakesValue, IsToken, is_token_byte as is_byte_of_token, AreLineBytes, IsHostText, IsRooted};
 
-use super::whole::Matcher;
+use crate::Matcher;
 
 /// Whether a call of this matcher may have so many values.
 pub fn takes_count(matcher: Matcher, count: usize) -> bool

@@ -4,7 +4,7 @@ ghost use Rattle.rule_lang.specs.Forms.{Form, IsRule, form_depth};
 ghost use Rattle.rule_lang.specs.Depths.{depth_step, depth_opened, depth_closed};
 ghost use Rattle.rule_lang.specs.Gauges.{depths_of};
 
-use super::whole::{Token, TokenKind};
+use crate::{Token, TokenKind};
 use px_base::Memory;
 use std::alloc::Global;
 

@@ -4,7 +4,7 @@ ghost use Rattle.rule_lang.specs.Expects.{stepped, closes as closed_from, begins
 ghost use Rattle.rule_lang.specs.Forms.{Form, IsRule};
 ghost use Rattle.rule_lang.specs.Faults.{IsUnexpected};
 
-use super::whole::{Token, TokenKind};
+use crate::{Token, TokenKind};
 
 // What the next token may be.
 #[derive(Clone, Copy)]

@@ -4,7 +4,7 @@ ghost use Rattle.rule_lang.specs.Tokens.{AreTokens, FailsAt};
 ghost use Rattle.rule_lang.specs.Faults.{IsLexFault};
 
 use super::scan::{Found, blanks, first, from_place};
-use super::whole::Token;
+use crate::Token;
 use px_base::Memory;
 use std::alloc::Global;
 

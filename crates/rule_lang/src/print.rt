@@ -4,7 +4,7 @@ ghost use Rattle.std.specs.List.{list_any};
 ghost use Rattle.rule_lang.specs.Trees.{tree_of};
 ghost use Rattle.rule_lang.specs.Prints.{rule_print, print_at as print_there, call_print, values_print, pair_print, value_print, escaped, and_is_bare, or_is_bare};
 
-use super::whole::{Leaf, Matcher, Rule, name_of};
+use crate::{Leaf, Matcher, Rule, name_of};
 use px_base::Memory;
 
 /// Which operand may stand at a place without parentheses.

@@ -9,7 +9,7 @@ use super::build::build;
 use super::call::CallFault;
 use super::depth::deepest;
 use super::expect::first_unexpected;
-use super::whole::{LexFault, Rule, Token, read_tokens};
+use crate::{LexFault, Rule, Token, read_tokens};
 use std::alloc::Global;
 
 /// The greatest length of a rule's text, in bytes.

@@ -1,5 +1,5 @@
 //! A rule as a tree. It knows nothing of its text.
-use super::whole::Matcher;
+use crate::Matcher;
 use px_base::Bytes;
 use sqlite_items::Boxed;
 

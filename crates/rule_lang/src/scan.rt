@@ -4,7 +4,7 @@ ghost use Rattle.std.specs.Char.{is_ascii_alphabetic};
 ghost use Rattle.rule_lang.specs.Tokens.{is_blank as is_blank_byte};
 ghost use Rattle.rule_lang.specs.Scans.{FindsFirst, FoundWithin, Quotes, QuoteWithin, closed_by, first_bad};
 
-use super::whole::TokenKind;
+use crate::TokenKind;
 
 // What stands at the front of a text.
 #[derive(Clone, Copy)]

@@ -1,5 +1,5 @@
 //! Texts of rules and their tokens.
-use super::whole::{
+use crate::{
     Leaf, LexFault, Matcher, Rule, RuleFault, Token, TokenKind, matcher_named, print_rule,
     read_rule, read_tokens, takes_count, takes_key, takes_value,
 };
