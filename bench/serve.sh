@@ -12,7 +12,7 @@ cd "$(dirname "$0")/.."
 rounds=${1:-5}
 seconds=2
 clients=50
-idle=1000
+idle=250   # `serve` takes 256 clients at a time
 proxy=$(readlink -f "${PROXY:-proxy}")
 PATH=$PATH:/usr/sbin
 for tool in nginx haproxy wrk curl python3 strace valgrind; do
