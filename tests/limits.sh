@@ -141,8 +141,8 @@ dear_tables() {
   expect 3 'config Later' 'servers' < <(filled $'[http.services.s.loadBalancer]\nservers=[' '{url="u"},' $']\n')
   expect 3 'config Later' 'mirrors' < <(filled $'[http.services.s.mirroring]\nservice="s"\nmirrors=[' '{name="u"},' $']\n')
   expect 3 'config Later' 'prefixes' < <(filled $'[http.middlewares.m.stripPrefix]\nprefixes=[' '"/@",' $']\n')
-  expect 3 'config Later' 'field lines' < <(many 1 $'[http.middlewares.m.headers.customRequestHeaders]\n'; many 5000 $'k@=""\n')
-  expect 3 'config Later' 'options that are not supported' < <(many 1 $'[http.middlewares.m.headers]\n'; many 5000 $'k@=1\n')
+  expect 3 'config Later' 'field lines' < <(filled $'[http.middlewares.m.headers.customRequestHeaders]\n' $'k@=""\n' '')
+  expect 3 'config Later' 'options that are not supported' < <(filled $'[http.middlewares.m.headers]\n' $'k@=1\n' '')
 }
 
 # Rules that ask much of each request.

@@ -3,4 +3,7 @@ pub mod Clear
 pub mod InRange
 pub mod Made
 pub mod Fields
-pub mod Numbering
+pub mod Twins
+pub mod Sorted
+pub mod Sameness
+pub mod ByNumber

@@ -7,5 +7,6 @@ pub mod Schema
 pub mod Shapes
 pub mod Steps
 pub mod Readings
-pub mod Numbering
+pub mod Ordered
+pub mod Orders
 pub mod Decoding

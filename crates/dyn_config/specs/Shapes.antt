@@ -21,8 +21,6 @@ use Rattle.std.specs.declared.cmp.Ordering.{Ordering}
 use Rattle.field_tree.specs.declared.values.Style.{Style}
 use Rattle.field_tree.specs.Keys.{walk_cmp}
 use Rattle.dyn_config.specs.declared.found.Fault.{Fault}
-use Rattle.dyn_config.specs.declared.twins.Sameness.{Sameness}
-use Rattle.dyn_config.specs.declared.twins.Sameness.TheVariants.{Fold, Decimal}
 use Rattle.dyn_config.specs.declared.found.Order.{Order}
 use Rattle.dyn_config.specs.declared.found.Order.TheVariants.{Walk, Number}
 
@@ -134,7 +132,7 @@ abbrev pub order_of : Order → List ℕ → List ℕ → Ordering
 order_of Walk = walk_cmp
 order_of Number = number_cmp
 
--- Which keys are one.
-abbrev pub sameness_of : Sameness → List ℕ → List ℕ → Bool
-sameness_of Fold = same_key
-sameness_of Decimal = same_number
+-- Which keys are one in that order.
+abbrev pub sameness_of : Order → List ℕ → List ℕ → Bool
+sameness_of Walk = same_key
+sameness_of Number = same_number

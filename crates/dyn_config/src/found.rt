@@ -134,7 +134,8 @@ pub(crate) fn is_before(order: Order, key: &[u8], other: &[u8]) -> bool
     }
 }
 
-fn visit_order(order: Order, key: &[u8], other: &[u8]) -> Ordering
+/// The order of two keys.
+pub(crate) fn visit_order(order: Order, key: &[u8], other: &[u8]) -> Ordering
     ensures { result ≡ order_of order key.now other.now }
 {
     match order {

@@ -1,14 +1,15 @@
 //! The elements of lists, and field lines.
 
-ghost use Rattle.std.specs.Prelude.{◌≡◌, ◌≤◌, [], ◌∷◌, ◌++◌, map, filter, length, unwrap_or, Some, IfOk, OnOk};
+ghost use Rattle.std.specs.Prelude.{◌≡◌, [], ◌∷◌, ◌++◌, map, filter, unwrap_or, Some, IfOk, OnOk};
 ghost use Rattle.std.specs.Map.{values_of};
 ghost use Rattle.std.specs.Option.{option_copied};
 ghost use Rattle.field_tree.specs.declared.values.Style.TheVariants.{Typed, Texts};
 ghost use Rattle.dyn_config.specs.Readings.{value_under, elements, elements_of, texts_under, text_or, line_of, is_line, lines_under, entries_under, by_number};
-ghost use Rattle.dyn_config.specs.Numbering.{numbered_view, place_for};
+ghost use Rattle.dyn_config.specs.Ordered.{entry_view};
 
-use crate::found::{Order, is_before};
+use crate::found::Order;
 use crate::options::value_under;
+use crate::ordered::{EntryRef, in_order};
 use crate::ranges::{is_field_name, is_field_value};
 use field_tree::{Fields, Style, Tree};
 use px_base::{Bytes, List, Memory};
@@ -149,52 +150,27 @@ fn in_table<'a>(alloc: Global, tree: &'a Tree) -> Result<Vec<&'a Tree>, Memory>
     match tree.table() {
         None => Ok(Vec::new(alloc)),
         Some(fields) => {
-            let places = by_number(alloc, fields)?;
-            let values = values_at(alloc, places.as_slice())?;
+            let entries = by_number(alloc, fields)?;
+            let values = values_at(alloc, entries.as_slice())?;
             Ok(values)
         }
     }
 }
 
-/// An entry of a table.
-#[derive(Clone, Copy)]
-struct Numbered<'a> {
-    key: &'a [u8],
-    value: &'a Tree,
-}
-
 /// The entries of a table, by their numbers.
-fn by_number<'a>(alloc: Global, fields: &'a Fields<Tree>) -> Result<Vec<Numbered<'a>>, Memory>
-    ensures { IfOk result (λ places. map numbered_view places.items ≡ by_number fields.now) }
+fn by_number<'a>(alloc: Global, fields: &'a Fields<Tree>) -> Result<Vec<EntryRef<'a>>, Memory>
+    ensures { IfOk result (λ entries. map entry_view entries.items ≡ by_number fields.now) }
 {
-    let mut places = Vec::new(alloc);
-    for at in 0..fields.len() {
-        let (key, value) = (fields.key(at), fields.value(at));
-        let place = place_for(places.as_slice(), key);
-        places.insert(place, Numbered { key, value })?;
-    }
-    Ok(places)
+    let entries = in_order(alloc, Order::Number, fields)?;
+    Ok(entries)
 }
 
-fn place_for(places: &[Numbered<'_>], key: &[u8]) -> usize
-    ensures place { result ≡ place_for key.now (map numbered_view places.now) }
-    ensures within { result ≤ length places.now }
-{
-    for at in 0..places.len() {
-        let other = places[at];
-        if is_before(Order::Number, key, other.key) {
-            return at;
-        }
-    }
-    places.len()
-}
-
-fn values_at<'a>(alloc: Global, places: &[Numbered<'a>]) -> Result<Vec<&'a Tree>, Memory>
-    ensures { IfOk result (λ found. map (λ element. element.now) found.items ≡ values_of (map numbered_view places.now)) }
+fn values_at<'a>(alloc: Global, entries: &[EntryRef<'a>]) -> Result<Vec<&'a Tree>, Memory>
+    ensures { IfOk result (λ found. map (λ element. element.now) found.items ≡ values_of (map entry_view entries.now)) }
 {
     let mut found = Vec::new(alloc);
-    for at in 0..places.len() {
-        found.push(places[at].value)?;
+    for at in 0..entries.len() {
+        found.push(entries[at].value)?;
     }
     Ok(found)
 }

@@ -1,18 +1,19 @@
 //! Tables, key by key.
 
-ghost use Rattle.std.specs.Prelude.{◌≡◌, ◌≢◌, [], map, fold, drop, None, IfOk, MatchOption, bytes_eq};
+ghost use Rattle.std.specs.Prelude.{◌≡◌, ◌≢◌, [], map, fold, drop, None, IfOk, MatchOption, bytes_eq, not, ◌&&◌, if◌then◌else◌};
 ghost use Rattle.std.specs.List.{list_all};
 ghost use Rattle.field_tree.specs.Keys.{walk_cmp};
-ghost use Rattle.dyn_config.specs.Walk.{sooner, under_key, unknown_fault, unknown_stop, other_fault, other_stop, lesser_key, lines_fault, line_stop_fault, is_decimal, least_key};
+ghost use Rattle.dyn_config.specs.Walk.{here, sooner, under_key, is_known, unknown_fault, unknown_stop, other_stop, lesser_key, lines_fault, line_fault, is_decimal, least_key};
+ghost use Rattle.dyn_config.specs.declared.found.Cause.TheVariants.{Twice};
 ghost use Rattle.dyn_config.specs.Shapes.{rows_of};
 ghost use Rattle.dyn_config.specs.Steps.{NextUnder};
 
 use crate::found::{Cause, Fault, Found, Order, here, is_before, note, under_key};
 use crate::leaves::line_fault;
 use crate::numbers::is_decimal;
+use crate::ordered::{has_twin, in_order};
 use crate::rows::is_known;
 use crate::schema::Table;
-use crate::twins::{Sameness, has_twin};
 use field_tree::{Fields, Tree};
 use px_base::{Memory, fold_equal};
 use std::alloc::Global;
@@ -70,23 +71,20 @@ pub(crate) fn note_twins(
 ) -> Result<Option<Found>, Memory>
     ensures { IfOk result (λ now. now ≡ fold (sooner walk_cmp) first (map (other_stop (rows_of table) fields.now) fields.now)) }
 {
+    let ordered = in_order(alloc, Order::Walk, fields)?;
     for at in 0..fields.len() {
         let key = fields.key(at);
-        first = note(
-            alloc,
-            Order::Walk,
-            first,
-            key,
-            other_fault(alloc, table, fields, key),
-        )?;
+        let twice = has_twin(Order::Walk, ordered.as_slice(), key);
+        let fault = other_fault(alloc, table, key, twice);
+        first = note(alloc, Order::Walk, first, key, fault)?;
     }
     Ok(first)
 }
 
-fn other_fault(alloc: Global, table: Table, fields: &Fields<Tree>, key: &[u8]) -> Option<Fault>
-    ensures { result ≡ other_fault (rows_of table) fields.now key.now }
+fn other_fault(alloc: Global, table: Table, key: &[u8], twice: bool) -> Option<Fault>
+    ensures { result ≡ (if not (is_known (rows_of table) key.now) && twice then here Twice else None) }
 {
-    if !is_known(table, key) && has_twin(Sameness::Fold, fields, key) {
+    if !is_known(table, key) && twice {
         here(alloc, Cause::Twice)
     } else {
         None
@@ -97,19 +95,21 @@ fn other_fault(alloc: Global, table: Table, fields: &Fields<Tree>, key: &[u8]) -
 pub(crate) fn check_lines(alloc: Global, fields: &Fields<Tree>) -> Result<Option<Fault>, Memory>
     ensures { IfOk result (λ fault. fault ≡ lines_fault fields.now) }
 {
+    let ordered = in_order(alloc, Order::Walk, fields)?;
     let mut first = None;
     for at in 0..fields.len() {
         let key = fields.key(at);
-        let fault = name_fault(alloc, fields, key, fields.value(at));
+        let twice = has_twin(Order::Walk, ordered.as_slice(), key);
+        let fault = name_fault(alloc, twice, key, fields.value(at));
         first = note(alloc, Order::Walk, first, key, fault)?;
     }
     under_key(alloc, first)
 }
 
-fn name_fault(alloc: Global, fields: &Fields<Tree>, name: &[u8], value: &Tree) -> Option<Fault>
-    ensures { result ≡ line_stop_fault fields.now (name.now, value.now) }
+fn name_fault(alloc: Global, twice: bool, name: &[u8], value: &Tree) -> Option<Fault>
+    ensures { result ≡ (if twice then here Twice else line_fault (name.now, value.now)) }
 {
-    if has_twin(Sameness::Fold, fields, name) {
+    if twice {
         here(alloc, Cause::Twice)
     } else {
         line_fault(alloc, name, value)

@@ -9,13 +9,13 @@ ghost use Rattle.dyn_config.specs.Shapes.{rows_of, kinds_of, limit_of, declared_
 
 use crate::found::{Cause, Fault, Found, Order, here, note, under_key, under_place};
 use crate::leaves::{flag_fault, is_empty_table, number_fault, text_fault, time_fault};
+use crate::ordered::{has_twin, in_order};
 use crate::ranges::is_name;
 use crate::rows::{declared_shape, kind_shape, limit};
 use crate::schema::{Declared, Family, Shape, Table, TextRange, rows_in};
 use crate::tables::{
     are_decimals, check_lines, first_key, is_same, next_under, note_twins, note_unknown,
 };
-use crate::twins::{Sameness, has_twin};
 use field_tree::{Fields, Style, Tree};
 use px_base::Memory;
 use std::alloc::Global;
@@ -312,10 +312,11 @@ fn check_numbered(
     if !are_decimals(fields) {
         return Ok(here(alloc, Cause::Kind));
     }
+    let ordered = in_order(alloc, Order::Number, fields)?;
     let mut first = None;
     for at in 0..fields.len() {
         let key = fields.key(at);
-        let fault = if has_twin(Sameness::Decimal, fields, key) {
+        let fault = if has_twin(Order::Number, ordered.as_slice(), key) {
             here(alloc, Cause::Twice)
         } else {
             check(alloc, Style::Texts, element, fields.value(at))?

@@ -1,11 +1,18 @@
-use Rattle.std.proofs.Common.{◌∙◌, ap}
+use Rattle.std.proofs.Common.{if◌then◌else◌, not, ◌&&◌, None, map, ◌∙◌, ap}
 use Rattle.field_tree.specs.Keys.{walk_cmp}
-use Rattle.dyn_config.specs.Walk.{sooner, other_fault}
+use Rattle.dyn_config.specs.declared.found.Cause.TheVariants.{Twice}
+use Rattle.dyn_config.specs.Walk.{here, sooner, same_key, is_known, has_twin, other_fault}
 use Rattle.dyn_config.specs.Shapes.{rows_of}
+use Rattle.dyn_config.specs.Ordered.{entry_view}
 use Rattle.dyn_config.proofs.Loops.{on_key}
+use Rattle.dyn_config.proofs.Twins.{same_twins}
 use Rattle.dyn_config.proofs.tables.note_twins.Goals as goal
 
 pub loop-at-preserved : goal.loop-at-preserved
 loop-at-preserved c =
-    on_key (sooner walk_cmp) (other_fault (rows_of c.args.table) c.args.fields.now) c.args.fields.now c.loop-at.at c.key-key.result.now _ c.loop-at.first c.in_ok-first.first c.key-key.ensures c.loop-at.invariant
-    (c.in_ok-first.ensures ∙ ap (λ f. sooner walk_cmp c.loop-at.first (c.key-key.result.now, f)) c.other_fault.ensures)
+    let key = c.key-key.result.now in
+    let sorted = map entry_view c.in_ok-ordered.ordered.items in
+    let twice = c.has_twin-twice.ensures ∙ ap (λ l. has_twin same_key (map entry_view l) key) c.as_slice.ensures.value ∙ same_twins same_key c.args.fields.now sorted key c.in_ok-ordered.ensures.all in
+    let fault = c.other_fault-fault.ensures ∙ ap (λ b. if not (is_known (rows_of c.args.table) key) && b then here Twice else None) twice in
+    on_key (sooner walk_cmp) (other_fault (rows_of c.args.table) c.args.fields.now) c.args.fields.now c.loop-at.at key _ c.loop-at.first c.in_ok-first.first c.key-key.ensures c.loop-at.invariant
+    (c.in_ok-first.ensures ∙ ap (λ f. sooner walk_cmp c.loop-at.first (key, f)) fault)
