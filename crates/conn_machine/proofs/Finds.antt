@@ -6,6 +6,7 @@ use Rattle.std.proofs.lemmas.List.{append-nil, length-append, length-take}
 use Rattle.std.proofs.Math.Seq.{take-append_seam, take-length}
 use Rattle.httparse.specs.Grammar.{RequestHead, NeverHasRequest, print_request}
 use Rattle.httparse.specs.Spans.{span_bytes, name_and_value}
+use Rattle.httparse.proofs.GrammarLemmas.{request_unique}
 use Rattle.httparse.specs.declared.spans.HeaderSpan.{HeaderSpan}
 use Rattle.ip_net.specs.declared.ip.Ip.{Ip}
 use Rattle.head_view.specs.Lines.{lines_at, line_feeds}
@@ -136,3 +137,12 @@ pub found_at : (g g' : Generation) (item entry : List ℕ) (peer : Ip) (r : Http
     → FindsRow (plan_of g) item entry peer r won → FindsRow (plan_of g') item entry peer r won'
 found_at g g' item entry peer r won won' same is f = λ h head.
     subst (λ (o : Option ℕ). IsWinner (plan_of g') entry (judged h r) peer o) is (subst (λ (x : Generation). IsWinner (plan_of x) entry (judged h r) peer won) same (f h head))
+
+-- a head of fewer lines is one of at most so many
+pub spans_most : {few most : ℕ} {buf : List ℕ} {room : List HeaderSpan} {s : HeadSpans} → few ≤ most → AreHeadSpans few buf room s → AreHeadSpans most buf room s
+spans_most {few} {most} le h = let n : length h.0.fields ≤ few = h.2 in let m : length h.0.fields ≤ most = omega arith in (h.0, h.1, m)
+
+-- bytes begin with at most one head, so the one that was found is each
+pub finds_only : {buf : List ℕ} {room : List HeaderSpan} {s : HeadSpans} → AreHeadSpans 100 buf room s → FindsHead 100 buf room (Whole s)
+finds_only {buf} {room} {s} found h rest reads few =
+    subst (λ (k : RequestHead). IsHeadAt buf room s k) (sym (request_unique buf h found.0 rest (drop s.len buf) reads found.1.reads).0) found.1
