@@ -4,7 +4,7 @@ ghost use Rattle.std.specs.Prelude.{IsTrue, ◌≡◌, ◌≤◌, ◌++◌, ◌�
 ghost use Rattle.std.specs.Arc.{arc_value};
 ghost use Rattle.conversation.specs.Steps.{Step, pinned};
 ghost use Rattle.conversation.specs.Asks.{query_bytes};
-ghost use Rattle.generation.specs.Meaning.{plan_of, aim_of};
+ghost use Rattle.generation.specs.Meaning.{plan_of, aim_of, IsEnabledAt};
 ghost use Rattle.conn_machine.specs.Parts.{end_by, refused_status, FindsRow, IsRoute, IsAim, issue_plan};
 ghost use Rattle.conn_machine.specs.Prompt.{IsPrompt};
 ghost use Rattle.conn_machine.specs.Reached.{Reached, HasMemory, IsOpen, IsGoing, Waits, KeepsServer};
@@ -152,7 +152,8 @@ fn find_route(
             Some(issue) => match find_row(alloc, issue, request, item, entry, peer)? {
                 Some(row) => match issue.target(row) {
                     Some(target) => Ok(Routed::Won(row, aim_at(alloc, target)?)),
-                    None => Err(AllocError),
+                    // A winner is enabled.
+                    None => unreachable!(),
                 },
                 None => Ok(Routed::Lost),
             },
@@ -170,7 +171,8 @@ fn find_row(
     entry: &[u8],
     peer: Ip,
 ) -> Result<Option<u32>, Memory>
-    ensures { IfOk result (FindsRow (plan_of issue.now) item.now entry.now peer request.now) }
+    ensures row { IfOk result (FindsRow (plan_of issue.now) item.now entry.now peer request.now) }
+    ensures enabled { IfOk result (λ won. IfSome won (IsEnabledAt (plan_of issue.now).rows)) }
 {
     let mut room = [EMPTY_HEADER_SPAN; 100];
     match scan_request(item, &mut room) {
