@@ -6,10 +6,11 @@ cd "$(dirname "$0")/.."
 proxy=${PROXY:-./proxy}
 status=0
 
-# expect STATUS TEXT FILE: what `route FILE` answers to the head on standard input.
+# expect STATUS TEXT FILE [WORD..]: what `route FILE WORD..` answers to the head on standard input.
 expect() {
   local wanted_status=$1 wanted=$2 file=$3 got got_status=0
-  got=$("$proxy" route "$file") || got_status=$?
+  shift 3
+  got=$("$proxy" route "$file" "$@") || got_status=$?
   if [ "$got" != "$wanted" ] || [ "$got_status" != "$wanted_status" ]; then
     echo "examples: route $file answered '$got' with $got_status, and '$wanted' with $wanted_status is wanted"
     status=1
@@ -57,6 +58,41 @@ router at-web http://10.0.0.1:8080 a.test /admin
 router by-priority http://10.0.0.2:80 a.test /up
 router last http://10.0.0.2:80 b.test /
 router watched http://10.0.0.1:8080 b.test /watched
+
+# The least and the greatest priority, one over it, and rules that are none: such a router leaves the others alone.
+work=$(mktemp -d)
+trap 'rm -rf "$work"' EXIT
+# A router by its name, its rule, and its priority if it has its own.
+add() { printf '[http.routers.%s]\nrule = "%s"\nservice = "s"\n%s\n' "$1" "$2" "${3:+priority = $3}" >>"$work/rules.toml"; }
+add least 'PathPrefix(`/`)' -9223372036854775808
+add low 'PathPrefix(`/x`)' -1
+add own 'PathPrefix(`/x/`)'
+add zero 'Path(`/x/y/z/zero`)' 0
+add most 'Path(`/most`)' 9223372036854774807
+add over 'PathPrefix(`/`)' 9223372036854774808
+add arity 'Host(`a`, `b`)' 1000
+add lex "Host('a')" 1000
+add unexpected 'Host(`a`) &&' 1000
+add unknown 'Foo(`a`)' 1000
+add value 'Path(`x`)' 1000
+add bits 'ClientIP(`10.0.0.0/33`)' 1000
+add net 'Path(`/net`) && ClientIP(`::ffff:10.0.0.0/104`)' 1000
+add mixed 'Host(`mixed`) || Path(`/mixed`) && !Method(`get`)' 1000
+printf '[[http.services.s.loadBalancer.servers]]\nurl = "http://10.0.0.1:8080"\n' >>"$work/rules.toml"
+judged() { expect 0 "forward $1@file http://10.0.0.1:8080" "$work/rules.toml" < <(shift; head_for "$@"); }
+judged least a /
+judged low a /x
+judged own a /x/y
+judged zero a /x/y/z/zero
+judged most a /most
+judged mixed mixed /
+judged mixed a /mixed '' POST
+judged least a /mixed
+expect 0 'forward net@file http://10.0.0.1:8080' "$work/rules.toml" --peer ::ffff:10.0.0.1 < <(head_for a /net)
+expect 0 'forward least@file http://10.0.0.1:8080' "$work/rules.toml" --peer 11.0.0.1 < <(head_for a /net)
+expect 0 'forward least@file http://10.0.0.1:8080' "$work/rules.toml" --peer 10.0.0.1 < <(head_for a /)
+grep -v '^priority = -9223372036854775808$' "$work/rules.toml" | sed '/^\[http.routers.least\]/,/^service/d' >"$work/without.toml"
+expect 0 '404' "$work/without.toml" < <(head_for a /)
 
 # Files that are read and not served yet.
 expect 3 'config Later' examples/services.toml < <(head_for site.test /)

@@ -1,6 +1,7 @@
 -- What a machine waits for hasn't come.
-use Rattle.std.proofs.Common.{◌≡◌, ◌≢◌, ℕ, ◌+◌, ◌-◌, ◌<◌, List, [], ◌∷◌, ◌++◌, length, take, drop, Option, refl, sym, ◌∙◌, ap, subst, inl, arith, false, lit<}
-use Rattle.std.proofs.lemmas.List.{length-append, length-drop}
+use Rattle.std.proofs.Common.{◌≡◌, ◌≢◌, ℕ, ◌+◌, ◌-◌, ◌<◌, List, [], ◌∷◌, ◌++◌, length, take, drop, Option, refl, sym, ◌∙◌, ap, subst, inl, arith, nat_eq, Bool, true, false, lit<}
+use Rattle.std.proofs.lemmas.List.{length-append, length-drop, nil_from_length}
+use Rattle.std.proofs.lemmas.Bool.Decides.{nat_tests}
 use Rattle.httparse.specs.Grammar.{RequestHead, print_request, print_blank, MayBecomeRequest}
 use Rattle.httparse.specs.Pieces.{Completes, BlankLines}
 use Rattle.httparse.proofs.GrammarLemmas.{print_request-append}
@@ -143,6 +144,15 @@ part_nil = record {
   continues = request_may_from_line (inl (line_blank (record { more = []; tree = []; reads = λ rest. refl })));
   room = lit< tt;
 }
+
+nil_of : (b : Bool) (buf : List ℕ) → b ≡ nat_eq (length buf) 0 → b ≡ true → [] ≡ buf
+nil_of b buf is yes_ = sym (nil_from_length buf (zero_of (length buf) (sym is ∙ yes_)))
+  where
+    zero_of : (n : ℕ) → nat_eq n 0 ≡ true → n ≡ 0
+    zero_of n e = grind (arith, nat_tests)
+
+pub part_empty : (b : Bool) (buf : List ℕ) → b ≡ nat_eq (length buf) 0 → b ≡ true → IsPart buf
+part_empty b buf is yes_ = subst IsPart (nil_of b buf is yes_) part_nil
 
 pub prompt_new : {d : Conn} → d.stage ≡ Head → d.over ≡ false → d.input.items ≡ [] → IsPrompt d
 prompt_new {d} is over none = prompt_head {d = d} is over (subst IsPart (sym none) part_nil)

@@ -141,3 +141,30 @@ reached_reserved {steps} {c} input looks picks backs notes i l p b n r = record 
     by Broken h = tt
     by (Over cause) h = h
     by (Told cause) h = h
+
+-- room was given back
+pub reached_rested : {steps : List Step} {c : Conn} (input out : Vec ℕ Global) (looks : Vec Look Global) (picks : Vec NodePick Global) (backs : Vec ℕ Global) (notes : Vec Note Global)
+    → input.items ≡ c.input.items → out.items ≡ c.out.items → looks.items ≡ c.looks.items → picks.items ≡ c.picks.items → backs.items ≡ c.backs.items → notes.items ≡ c.notes.items
+    → Reached steps c → Reached steps (record c { input = input; out = out; looks = looks; picks = picks; backs = backs; notes = notes })
+reached_rested {steps} {c} input out looks picks backs notes i o l p b n r =
+    let d : Conn = record c { input = input; looks = looks; picks = picks; backs = backs; notes = notes } in
+    sent_on d out o (reached_reserved {c = c} input looks picks backs notes i l p b n r)
+  where
+    sent_on : (d : Conn) (out : Vec ℕ Global) → out.items ≡ d.out.items → Reached steps d → Reached steps (record d { out = out })
+    sent_on d out o r = record {
+      done = r.done;
+      last = r.last;
+      rest = r.rest;
+      left = r.left;
+      kept = record { next = r.kept.next; holds = r.kept.holds; sound = r.kept.sound; tied = r.kept.tied };
+      phase = by d.phase r.phase;
+    }
+      where
+        same : drop d.sent out.items ≡ drop d.sent d.out.items
+        same = ap (λ (l : List ℕ). drop d.sent l) o
+
+        by : (q : Phase) → PhaseHolds q steps d r.done r.last r.rest r.left r.kept.next → PhaseHolds q steps (record d { out = out }) r.done r.last r.rest r.left r.kept.next
+        by Open h = (h.0, h.1 ∙ sym same, h.2, subst (λ (x : List ℕ). AtStage d.stage d.client d.current d.input.items x r.done r.last r.rest) (sym same) h.3)
+        by Broken h = tt
+        by (Over cause) h = h
+        by (Told cause) h = h

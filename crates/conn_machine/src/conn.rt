@@ -87,11 +87,34 @@ impl Conn {
         ensures pending { pending_of self.new ≡ pending_of self.old }
         ensures reached { (steps : List Step) → Reached steps self.old → Reached steps self.new }
     {
-        self.notes.reserve(1)?;
-        self.looks.reserve(1)?;
-        self.picks.reserve(1)?;
-        self.backs.reserve(1)?;
-        self.input.reserve(n)
+        make_room(&mut self.notes, 1)?;
+        make_room(&mut self.looks, 1)?;
+        make_room(&mut self.picks, 1)?;
+        make_room(&mut self.backs, 1)?;
+        make_room(&mut self.input, n)
+    }
+
+    /// Gives back the room that holds nothing, where no byte of a request waits.
+    pub fn rest(&mut self)
+        ensures client { self.new.client ≡ self.old.client }
+        ensures current { self.new.current ≡ self.old.current }
+        ensures phase { self.new.phase ≡ self.old.phase }
+        ensures stage { self.new.stage ≡ self.old.stage }
+        ensures input { self.new.input.items ≡ self.old.input.items }
+        ensures notes { self.new.notes.items ≡ self.old.notes.items }
+        ensures prompt { IsPrompt self.old → IsPrompt self.new }
+        ensures over { self.new.over ≡ self.old.over }
+        ensures pending { pending_of self.new ≡ pending_of self.old }
+        ensures reached { (steps : List Step) → Reached steps self.old → Reached steps self.new }
+    {
+        if self.input.as_slice().is_empty() {
+            self.input.shrink_to_fit();
+            self.out.shrink_to_fit();
+            self.notes.shrink_to_fit();
+            self.looks.shrink_to_fit();
+            self.picks.shrink_to_fit();
+            self.backs.shrink_to_fit();
+        }
     }
 
     /// Bytes of the client.
@@ -242,6 +265,18 @@ fn front(input: &[u8]) -> &[u8]
     } else {
         &input[..16384]
     }
+}
+
+// Room for so many more.
+fn make_room<T>(held: &mut Vec<T>, n: usize) -> Result<(), Memory>
+    ensures items { held.new.items ≡ held.old.items }
+    ensures len { vec_len held.new ≡ vec_len held.old }
+    ensures room { OnOk result (vec_len held.new + n ≤ vec_capacity held.new) }
+{
+    if n <= held.capacity() - held.len() {
+        return Ok(());
+    }
+    held.reserve(n)
 }
 
 fn add_in_room(out: &mut Vec<u8>, piece: &[u8])

@@ -2,18 +2,20 @@
 ghost use Rattle.http_wire.specs.Own.{is_own_error};
 ghost use Rattle.std.specs.Prelude.{IsTrue, ◌≡◌, ◌≤◌, ◌++◌, ◌∷◌, [], List, ℕ, None, Some, IfOk, OnOk, IfSome, is_some, take};
 ghost use Rattle.std.specs.Arc.{arc_value};
+ghost use Rattle.head_view.specs.Scans.{IsHeadWithin, AreHeadSpans};
 ghost use Rattle.conversation.specs.Steps.{Step, pinned};
 ghost use Rattle.conversation.specs.Asks.{query_bytes};
-ghost use Rattle.generation.specs.Meaning.{plan_of, aim_of};
+ghost use Rattle.generation.specs.Meaning.{plan_of, aim_of, IsEnabledAt};
 ghost use Rattle.conn_machine.specs.Parts.{end_by, refused_status, FindsRow, IsRoute, IsAim, issue_plan};
 ghost use Rattle.conn_machine.specs.Prompt.{IsPrompt};
 ghost use Rattle.conn_machine.specs.Reached.{Reached, HasMemory, IsOpen, IsGoing, Waits, KeepsServer};
 
 use crate::conn::Conn;
+use crate::heads::USUAL_LINES;
 use crate::own::own_text;
 use crate::parts::{Aim, Asked, Current, Phase, Stage};
 use generation::{Generation, Target};
-use head_view::{EMPTY_HEADER_SPAN, Scan, scan_request, view};
+use head_view::{EMPTY_HEADER_SPAN, HeadSpans, HeaderSpan, Scan, scan_request, view};
 use http_wire::{Request, host_of_rules};
 use ip_net::Ip;
 use link_world::{Cause, EndCause, HeadName};
@@ -152,7 +154,8 @@ fn find_route(
             Some(issue) => match find_row(alloc, issue, request, item, entry, peer)? {
                 Some(row) => match issue.target(row) {
                     Some(target) => Ok(Routed::Won(row, aim_at(alloc, target)?)),
-                    None => Err(AllocError),
+                    // A winner is enabled.
+                    None => unreachable!(),
                 },
                 None => Ok(Routed::Lost),
             },
@@ -170,18 +173,55 @@ fn find_row(
     entry: &[u8],
     peer: Ip,
 ) -> Result<Option<u32>, Memory>
-    ensures { IfOk result (FindsRow (plan_of issue.now) item.now entry.now peer request.now) }
+    ensures row { IfOk result (FindsRow (plan_of issue.now) item.now entry.now peer request.now) }
+    ensures enabled { IfOk result (λ won. IfSome won (IsEnabledAt (plan_of issue.now).rows)) }
+{
+    let mut room = [EMPTY_HEADER_SPAN; USUAL_LINES];
+    match scan_request(item, &mut room) {
+        Scan::Whole(spans) => row_of(alloc, issue, request, item, &room, &spans, entry, peer),
+        _ => find_any_row(alloc, issue, request, item, entry, peer),
+    }
+}
+
+// The row, with room for as many lines as a head may have.
+fn find_any_row(
+    alloc: Global,
+    issue: &Generation,
+    request: &Request,
+    item: &[u8],
+    entry: &[u8],
+    peer: Ip,
+) -> Result<Option<u32>, Memory>
+    ensures row { IfOk result (FindsRow (plan_of issue.now) item.now entry.now peer request.now) }
+    ensures enabled { IfOk result (λ won. IfSome won (IsEnabledAt (plan_of issue.now).rows)) }
 {
     let mut room = [EMPTY_HEADER_SPAN; 100];
     match scan_request(item, &mut room) {
-        Scan::Whole(spans) => {
-            let host = host_of_rules(request.host.as_slice());
-            let path = request.path.as_slice();
-            let view = view(item, &room, &spans, host, path, query_of(request));
-            issue.winner(alloc, entry, &view, peer)
-        }
+        Scan::Whole(spans) => row_of(alloc, issue, request, item, &room, &spans, entry, peer),
         _ => Err(AllocError),
     }
+}
+
+// The row, by the head that a scan found.
+fn row_of(
+    alloc: Global,
+    issue: &Generation,
+    request: &Request,
+    item: &[u8],
+    room: &[HeaderSpan],
+    spans: &HeadSpans,
+    entry: &[u8],
+    peer: Ip,
+) -> Result<Option<u32>, Memory>
+    requires within { IsHeadWithin item.now room.now spans.now }
+    requires head { AreHeadSpans 100 item.now room.now spans.now }
+    ensures row { IfOk result (FindsRow (plan_of issue.now) item.now entry.now peer request.now) }
+    ensures enabled { IfOk result (λ won. IfSome won (IsEnabledAt (plan_of issue.now).rows)) }
+{
+    let host = host_of_rules(request.host.as_slice());
+    let path = request.path.as_slice();
+    let view = view(item, room, spans, host, path, query_of(request));
+    issue.winner(alloc, entry, &view, peer)
 }
 
 // The query's bytes, which a target without one hasn't got.

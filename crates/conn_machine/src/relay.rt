@@ -25,6 +25,7 @@ pub fn relay(
     }
     let had = has_reply(back);
     let content = back.bytes(alloc, piece)?;
+    out.reserve(piece.len())?;
     push_head(alloc, had, back, version, close, out)?;
     out.extend_from_slice(&piece[content.from..content.from + content.len])?;
     Ok(())

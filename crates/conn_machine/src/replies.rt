@@ -104,6 +104,7 @@ impl Conn {
         self.current.asked = Asked::Nothing;
         self.current.size = 0;
         self.current.issue = None;
+        self.current.aim = None;
         self.current.back = None;
         self.current.pinned = false;
         self.stage = Stage::Head;

@@ -89,7 +89,10 @@ fn receive_into<W: World>(
             conn.bytes(alloc, &room[..n])?;
             Ok(true)
         }
-        LinkRead::NotYet => Ok(false),
+        LinkRead::NotYet => {
+            conn.rest();
+            Ok(false)
+        }
         LinkRead::End => {
             conn.end(alloc)?;
             Ok(true)

@@ -14,16 +14,56 @@ use std::test::Fail;
 const CONFIG: &str = "[http.routers.r]
 rule = \"PathPrefix(`/a`)\"
 service = \"s\"
+[http.routers.r-least]
+rule = \"PathPrefix(`/a`)\"
+priority = -9223372036854775808
+service = \"s\"
+[http.routers.r-most]
+rule = \"PathPrefix(`/a`)\"
+priority = 9223372036854774807
+service = \"s\"
+[http.routers.r-over]
+rule = \"PathPrefix(`/a`)\"
+priority = 9223372036854774808
+service = \"s\"
+[http.routers.r-zero]
+rule = \"PathPrefix(`/a`)\"
+priority = 0
+service = \"s\"
 [http.routers.t]
 rule = \"Host(\"
+service = \"s\"
+[http.routers.t-arity]
+rule = \"Host(`a`, `b`)\"
+service = \"s\"
+[http.routers.t-end]
+rule = \"Host(`a`) &&\"
+service = \"s\"
+[http.routers.t-lex]
+rule = \"Host('a')\"
+service = \"s\"
+[http.routers.t-matcher]
+rule = \"Foo(`a`)\"
+service = \"s\"
+[http.routers.t-value]
+rule = \"Path(`x`)\"
 service = \"s\"
 [[http.services.s.loadBalancer.servers]]
 url = \"http://127.0.0.1:9000\"
 ";
 
 const CONFIG_TEXT: &str = "generation 1
-router 0 r@file priority 16 enabled
-router 1 t@file priority 5 disabled Rule Unexpected 5
+router 0 r-least@file priority -9223372036854775808 enabled
+router 1 r-most@file priority 9223372036854774807 enabled
+router 2 r-over@file priority 9223372036854774808 disabled Priority
+router 3 r-zero@file priority 16 enabled
+router 4 r@file priority 16 enabled
+router 5 t-arity@file priority 14 disabled Rule Arity 0
+router 6 t-end@file priority 12 disabled Rule Unexpected 12
+router 7 t-lex@file priority 9 disabled Rule Lex 5
+router 8 t-matcher@file priority 8 disabled Rule UnknownMatcher 0
+router 9 t-value@file priority 9 disabled Rule Value 5
+router 10 t@file priority 5 disabled Rule Unexpected 5
 service s@file balancer node 0
 server 0 0 127.0.0.1:9000 weight 1
 end

@@ -1,10 +1,6 @@
-use Rattle.std.proofs.Common.{◌∙◌, ap}
-use Rattle.http_wire.specs.Targets.{host_of_rules}
-use Rattle.conn_machine.proofs.Finds.{found_row, judged_as}
+use Rattle.std.proofs.Common.{◌≤◌, arith}
+use Rattle.conn_machine.proofs.Finds.{spans_most}
 use Rattle.conn_machine.proofs.pins.find_row.Goals as goal
 
-pub returns-in-Whole : goal.returns-in-Whole
-returns-in-Whole c = found_row c.args.issue.now c.args.item.now c.args.entry.now c.args.peer c.args.request.now c.view-view.result c.winner.result
-    (judged_as c.args.item.now c.scan_request.new.room c.in-Whole.spans c.args.request.now c.view-view.result c.in-Whole.ensures.same c.view-view.ensures.head
-    (c.view-view.ensures.host ∙ c.host_of_rules-host.ensures ∙ ap host_of_rules c.as_slice.ensures) (c.view-view.ensures.path ∙ c.as_slice-path.ensures) (c.view-view.ensures.query ∙ c.query_of.ensures))
-    c.winner.ensures
+pub row_of-requires-clause-head : goal.row_of-requires-clause-head
+row_of-requires-clause-head c = let le : 32 ≤ 100 = omega arith in spans_most le c.in-Whole.ensures.whole

@@ -10,6 +10,7 @@ returns-clause-relays c = λ message method took_ gave_ content x.
       c.in_ok-content.ensures.reached message method took_ gave_ content x,
       c.in_ok-extend_from_slice.ensures.items
           ∙ ap (λ (l : List ℕ). l ++ take ((c.in_ok-content.content.from + c.in_ok-content.content.len) - c.in_ok-content.content.from) (drop c.in_ok-content.content.from c.args.piece.now))
-          (c.in_ok-push_head.ensures ∙ ap (λ (b : Bool). c.args.out.now.items ++ new_head b c.bytes.new.self.reply c.args.version c.args.close) c.has_reply-had.ensures)
+          (c.in_ok-push_head.ensures ∙ ap (λ (l : List ℕ). l ++ new_head c.has_reply-had.result c.bytes.new.self.reply c.args.version c.args.close) c.reserve.ensures.items
+          ∙ ap (λ (b : Bool). c.args.out.now.items ++ new_head b c.bytes.new.self.reply c.args.version c.args.close) c.has_reply-had.ensures)
           ∙ ap (λ (k : ℕ). (c.args.out.now.items ++ new_head (is_some c.args.back.now.reply) c.bytes.new.self.reply c.args.version c.args.close) ++ take k (drop c.in_ok-content.content.from c.args.piece.now)) n,
     )
