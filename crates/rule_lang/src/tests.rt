@@ -1,10 +1,8 @@
 //! Texts of rules and their tokens.
 use crate::{
-    Leaf, LexFault, Matcher, Rule, RuleFault, Token, TokenKind, matcher_named, print_rule,
-    read_rule, read_tokens, takes_count, takes_key, takes_value,
+    LexFault, Matcher, Rule, RuleFault, Token, TokenKind, matcher_named, print_rule, read_rule,
+    read_tokens, takes_count, takes_key, takes_value,
 };
-use px_base::Bytes;
-use sqlite_items::Boxed;
 use std::alloc::Global;
 use std::process::Abort;
 use std::test::Fail;
@@ -92,44 +90,10 @@ fn texts(rt: HostRuntime) -> Result<(), Fail> {
     Ok(())
 }
 
-fn call(alloc: Global, matcher: Matcher, key: &[u8], value: &[u8]) -> Result<Rule, Fail> {
-    let key = Bytes::from_slice(alloc, key)?;
-    let value = Bytes::from_slice(alloc, value)?;
-    Ok(Rule::Leaf(Leaf {
-        matcher,
-        key,
-        value,
-    }))
-}
-
-fn boxed(alloc: Global, rule: Rule) -> Result<Boxed<Rule>, Fail> {
-    Ok(Boxed::new(alloc, rule)?)
-}
-
 fn printed(alloc: Global, rule: &Rule) -> Result<Vec<u8>, Fail> {
     let mut out = Vec::new(alloc);
     print_rule(rule, &mut out)?;
     Ok(out)
-}
-
-// Host(`a`) || Path(`/x`) && !Method(`get`)
-fn host_or_path(alloc: Global) -> Result<Rule, Fail> {
-    let host = boxed(alloc, call(alloc, Matcher::Host, b"", b"a")?)?;
-    let path = boxed(alloc, call(alloc, Matcher::Path, b"", b"/x")?)?;
-    let method = boxed(alloc, call(alloc, Matcher::Method, b"", b"get")?)?;
-    let not = boxed(alloc, Rule::Not(method))?;
-    let and = boxed(alloc, Rule::And(path, not))?;
-    Ok(Rule::Or(host, and))
-}
-
-#[test]
-fn prints(rt: HostRuntime) -> Result<(), Fail> {
-    let alloc = rt.alloc();
-    let rule = host_or_path(alloc)?;
-    let out = printed(alloc, &rule)?;
-    let text: &[u8] = b"Host(`a`) || Path(`/x`) && !Method(`get`)";
-    assert!(rt; out.as_slice() == text);
-    Ok(())
 }
 
 // Reads the text, and prints it again.
@@ -226,16 +190,7 @@ fn expect_limits(rt: &impl Abort, alloc: Global) -> Result<(), Fail> {
     Ok(())
 }
 
-#[test]
-fn rules(rt: HostRuntime) -> Result<(), Fail> {
-    let alloc = rt.alloc();
-    expect_rules(&rt, alloc)?;
-    expect_faults(&rt, alloc);
-    expect_limits(&rt, alloc)
-}
-
-#[test]
-fn matchers(rt: HostRuntime) -> Result<(), Fail> {
+fn expect_matchers(rt: &impl Abort) {
     assert!(rt; matcher_named(b"clientip") == Some(Matcher::ClientIp));
     assert!(rt; matcher_named(b"Foo").is_none());
     assert!(rt;
@@ -245,5 +200,14 @@ fn matchers(rt: HostRuntime) -> Result<(), Fail> {
     );
     assert!(rt; takes_key(Matcher::Header, b"X-A") && !takes_key(Matcher::Header, b"X A"));
     assert!(rt; takes_value(Matcher::Path, b"/x") && !takes_value(Matcher::Path, b"x"));
+}
+
+#[test]
+fn rules(rt: HostRuntime) -> Result<(), Fail> {
+    let alloc = rt.alloc();
+    expect_rules(&rt, alloc)?;
+    expect_faults(&rt, alloc);
+    expect_limits(&rt, alloc)?;
+    expect_matchers(&rt);
     Ok(())
 }
