@@ -7,9 +7,10 @@ use Rattle.std.proofs.Math.Seq.{take-append_seam}
 use Rattle.std.specs.Char.{is_ascii_digit}
 use Rattle.std.specs.Prelude.{IsTrue}
 use Rattle.httparse.specs.Grammar.{ResponseHead, print_response, ReadsResponse, HasNoResponse, IsResponseHead, lf, status_code, reason_phrase, print_blank, print_version, print_reason, print_end, print_section}
-use Rattle.httparse.specs.Spans.{ResponseOverflows, span_bytes, header_bytes, name_and_value}
+use Rattle.httparse.specs.Spans.{ResponseOverflows, IsResponseAt, span_bytes, header_bytes, name_and_value}
 use Rattle.httparse.proofs.GrammarLemmas.{response_unique, response_prefix_free, ReadsResponse-append, print_response-append}
 use Rattle.httparse.specs.declared.spans.HeaderSpan.{HeaderSpan}
+use Rattle.httparse.specs.declared.spans.ResponseSpans.{ResponseSpans}
 use Rattle.body_codec.specs.declared.Framing.{Framing}
 use Rattle.head_view.specs.Lines.{Line as Field, lines_at}
 use Rattle.head_view.specs.Replies.{IsHeadAt}
@@ -121,10 +122,10 @@ pub found_invalid : (method gave : List ℕ) (lines : List HeaderSpan) (s : Repl
 found_invalid method gave lines s h at bad = invalid method gave h (drop s.len gave) at.reads bad
 
 -- no more fields than there is room
-pub few_fields : (gave : List ℕ) (lines : List HeaderSpan) (s : ReplySpans) (h : ResponseHead) → IsHeadAt gave lines s h
-    → length lines ≡ 100 → length h.fields ≤ 100
-few_fields gave lines s h at room =
-    omega (arith, room, ap length at.fields, length-map (take s.lines lines) (header_bytes gave), length-map h.fields name_and_value, length-take s.lines lines)
+pub few_fields : (gave : List ℕ) (lines : List HeaderSpan) (s : ResponseSpans) (h : ResponseHead) (room : ℕ) → IsResponseAt gave lines s h
+    → length lines ≡ room → room ≤ 100 → length h.fields ≤ 100
+few_fields gave lines s h room at is most =
+    omega (arith, is, most, ap length at.fields, length-map (take s.headers lines) (header_bytes gave), length-map h.fields name_and_value, length-take s.headers lines)
 
 -- the fields of the head that a scan found
 fields_found : (gave : List ℕ) (lines : List HeaderSpan) (s : ReplySpans) (h : ResponseHead) → IsHeadAt gave lines s h

@@ -87,7 +87,11 @@ impl Back {
             Exchanged message method took gave content ended failed self.old →
             Exchanged message method (took ++ take n self.old.pending) gave content ended failed self.new }
     {
-        self.pending.drain(..n);
+        if n >= self.pending.len() {
+            self.pending.clear();
+        } else {
+            self.pending.drain(..n);
+        }
     }
 
     /// The link gave a piece. The answer says which of its bytes are content of the reply, whose head is whole by then.

@@ -1,5 +1,7 @@
 //! Finds the head of a reply at the front of a link's bytes.
-ghost use Rattle.std.specs.Prelude.{◌≡◌, ◌↔◌, ◌-◌, [], length, take, IfOk, IsTrue};
+ghost use Rattle.std.specs.Prelude.{◌≡◌, ◌≤◌, ◌↔◌, ◌-◌, [], length, take, IfOk, IsTrue};
+ghost use Rattle.httparse.specs.Grammar.{ResponseHead};
+ghost use Rattle.httparse.specs.Spans.{IsResponseWithin, IsResponseAt};
 ghost use Rattle.head_view.specs.Replies.{IsHeadWithin, AreHeadSpans};
 ghost use Rattle.back_machine.specs.Replies.{head_limit, line_limit, IsTakenFraming, content_length};
 ghost use Rattle.back_machine.specs.Readings.{Finds, KeepsPart, window};
@@ -8,7 +10,7 @@ use body_codec::Framing;
 use head_view::{EMPTY_HEADER_SPAN, HeaderSpan, ReplySpans};
 use http_wire::{Reply, ReplyRefused, take_reply};
 use httparse::Status;
-use httparse::spans::parse_response;
+use httparse::spans::{ResponseSpans, parse_response};
 use px_base::Memory;
 use std::alloc::{AllocError, Global};
 
@@ -17,6 +19,9 @@ const HEAD_LIMIT: usize = 16384;
 
 /// The most field lines of a head.
 const LINE_LIMIT: usize = 100;
+
+/// The most field lines of a usual head, which is found without room for all that a head may have.
+const USUAL_LINES: usize = 32;
 
 /// The most bytes of content.
 const CONTENT_LIMIT: u64 = 1048576;
@@ -85,22 +90,48 @@ fn read_first(
 fn find(alloc: Global, gave: &[u8], method: &[u8]) -> Result<Found, Memory>
     ensures { IfOk result (Finds method.now gave.now) }
 {
+    let mut room = [EMPTY_HEADER_SPAN; USUAL_LINES];
+    match parse_response(gave, &mut room) {
+        Ok(Status::Complete(found)) => take_found(alloc, gave, &room, &found, method),
+        Ok(Status::Partial) if gave.len() < HEAD_LIMIT => Ok(Found::Part),
+        Ok(Status::Partial) => Ok(Found::Bad),
+        Err(_) => find_any(alloc, gave, method),
+    }
+}
+
+// What stands there, with room for as many lines as a head may have.
+fn find_any(alloc: Global, gave: &[u8], method: &[u8]) -> Result<Found, Memory>
+    ensures { IfOk result (Finds method.now gave.now) }
+{
     let mut room = [EMPTY_HEADER_SPAN; LINE_LIMIT];
     match parse_response(gave, &mut room) {
-        Ok(Status::Complete(found)) => {
-            let spans = ReplySpans {
-                version: found.version,
-                status: found.code,
-                reason: found.reason,
-                lines: found.headers,
-                len: found.len,
-            };
-            take_head(alloc, gave, &room, &spans, method)
-        }
+        Ok(Status::Complete(found)) => take_found(alloc, gave, &room, &found, method),
         Ok(Status::Partial) if gave.len() < HEAD_LIMIT => Ok(Found::Part),
         Ok(Status::Partial) => Ok(Found::Bad),
         Err(_) => Ok(Found::Bad),
     }
+}
+
+// The head that the parser found, if it is taken.
+fn take_found(
+    alloc: Global,
+    gave: &[u8],
+    room: &[HeaderSpan],
+    found: &ResponseSpans,
+    method: &[u8],
+) -> Result<Found, Memory>
+    requires within { IsResponseWithin gave.now room.now found.now }
+    requires head { (h : ResponseHead) × IsResponseAt gave.now room.now found.now h × (length h.fields ≤ line_limit) }
+    ensures { IfOk result (Finds method.now gave.now) }
+{
+    let spans = ReplySpans {
+        version: found.version,
+        status: found.code,
+        reason: found.reason,
+        lines: found.headers,
+        len: found.len,
+    };
+    take_head(alloc, gave, room, &spans, method)
 }
 
 // The head that a scan found, if it is taken.
