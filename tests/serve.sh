@@ -1,7 +1,9 @@
 #!/usr/bin/env bash
 # The built program serves: a server's reply comes through, and each refusal as it is written in the README.
+# PROXY names another program to be asked in place of ./proxy.
 set -euo pipefail
 cd "$(dirname "$0")/.."
+program=${PROXY:-./proxy}
 for tool in curl python3; do
   if ! command -v "$tool" >/dev/null; then
     echo "serve: left out, since $tool isn't there"
@@ -55,13 +57,13 @@ expect() {
 ends() {
   local wanted=$1 got=0
   shift
-  ./proxy "$@" >"$work/text" 2>"$work/errors" || got=$?
+  "$program" "$@" >"$work/text" 2>"$work/errors" || got=$?
   if [ "$got" != "$wanted" ]; then
     fail "'$*' ended with $got, and $wanted is wanted"
   fi
 }
 
-./proxy >/dev/null 2>&1 || true # builds the program
+"$program" >/dev/null 2>&1 || true # builds the program
 backend_port=$(free_port)
 port=$(free_port)
 mkdir "$work/www"
@@ -79,7 +81,7 @@ url = "http://127.0.0.1:$backend_port"
 TOML
 
 # It serves the configuration, and ends after so many requests.
-./proxy serve "web=127.0.0.1:$port" --file "$work/config.toml" --requests 7 --access "$work/access" >"$work/out" &
+"$program" serve "web=127.0.0.1:$port" --file "$work/config.toml" --requests 7 --access "$work/access" >"$work/out" &
 proxy=$!
 wait_for "$port"
 expect 200 'hello from behind

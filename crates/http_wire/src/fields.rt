@@ -4,7 +4,7 @@ ghost use Rattle.std.specs.List.{list_all, list_any};
 ghost use Rattle.std.specs.Str.{str_eq_ignore_ascii_case};
 ghost use Rattle.httparse.specs.Spans.{IsHeaderWithin, header_bytes};
 ghost use Rattle.head_view.specs.Lines.{AreWithin, lines_at, has_name, values_of};
-ghost use Rattle.http_wire.specs.Fields.{field_of, is_same, is_comma, trimmed, elements, lists, is_listed, is_hop_by_hop, goes_on};
+ghost use Rattle.http_wire.specs.Fields.{field_of, is_same, is_comma, trimmed, elements, lists, is_listed, is_hop_by_hop, goes_on, HaveSameOptions};
 
 use crate::message::Line;
 use httparse::spans::HeaderSpan;
@@ -131,6 +131,22 @@ pub(crate) fn is_in_connection(buf: &[u8], lines: &[HeaderSpan], name: &[u8]) ->
         }
     }
     false
+}
+
+/// The lines from the first `Connection` line on: those before it list nothing.
+pub(crate) fn option_lines<'a>(buf: &[u8], lines: &'a [HeaderSpan]) -> &'a [HeaderSpan]
+    requires { AreWithin buf.now lines.now }
+    ensures within { AreWithin buf.now result.now }
+    ensures same { HaveSameOptions buf.now result.now lines.now }
+{
+    let mut left = lines;
+    while let Some((line, rest)) = left.split_first() {
+        if is_named(buf, line, b"Connection") {
+            return left;
+        }
+        left = rest;
+    }
+    left
 }
 
 // Whether the list has this name as an element, without case.

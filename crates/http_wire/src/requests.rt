@@ -8,12 +8,14 @@ ghost use Rattle.path_norm.specs.Escapes.{HasWholeEscapes};
 ghost use Rattle.path_norm.specs.Normal.{IsRooted, Normalises};
 ghost use Rattle.head_view.specs.Lines.{AreWithin, lines_at};
 ghost use Rattle.head_view.specs.Scans.{IsHeadWithin};
-ghost use Rattle.http_wire.specs.Fields.{field_of};
+ghost use Rattle.http_wire.specs.Fields.{field_of, HaveSameOptions};
 ghost use Rattle.http_wire.specs.Framing.{encodings_of, lengths_of, framing_by, IsFramed};
 ghost use Rattle.http_wire.specs.Targets.{path_of, query_of, is_bad_target};
 ghost use Rattle.http_wire.specs.Requests.{hosts_of, first_or_empty, host_in, HasNoHost, HasTwoHosts, IsHosted, is_forwarded, is_replaced, goes_to_backend, told_fields, lines_for_backend, keeps, IsRequestOf, IsBadTarget, IsSound, IsHeadFault, TakesRequest};
 
-use crate::fields::{does_go_on, has_none, is_in_connection, is_named, line_at, only_value};
+use crate::fields::{
+    does_go_on, has_none, is_in_connection, is_named, line_at, only_value, option_lines,
+};
 use crate::framing::{FramingFault, framing_of};
 use crate::message::{Line, Request};
 use crate::targets::{host_text, is_refused_target, path_in, port_in, query_in};
@@ -249,21 +251,29 @@ fn client_lines(alloc: Global, buf: &[u8], lines: &[HeaderSpan]) -> Result<List<
     requires { AreWithin buf.now lines.now }
     ensures { IfOk result (λ kept. map field_of kept ≡ filter (goes_to_backend (lines_at buf.now lines.now)) (lines_at buf.now lines.now)) }
 {
+    let options = option_lines(buf, lines);
     let mut kept = List::new(alloc);
     for line in lines {
-        if does_go_to_backend(buf, lines, line) {
+        if does_go_to_backend(buf, lines, options, line) {
             kept.push(line_at(alloc, buf, line)?)?;
         }
     }
     Ok(kept)
 }
 
-fn does_go_to_backend(buf: &[u8], lines: &[HeaderSpan], line: &HeaderSpan) -> bool
-    requires all { AreWithin buf.now lines.now }
+// Whether the line goes to the backend, among `lines`, whose `Connection` lines are all among `options`.
+fn does_go_to_backend(
+    buf: &[u8],
+    lines: &[HeaderSpan],
+    options: &[HeaderSpan],
+    line: &HeaderSpan,
+) -> bool
+    requires within { AreWithin buf.now options.now }
+    requires same { HaveSameOptions buf.now options.now lines.now }
     requires one { IsHeaderWithin (length buf.now) line.now }
     ensures { result ≡ goes_to_backend (lines_at buf.now lines.now) (header_bytes buf.now line.now) }
 {
-    does_go_on(buf, lines, line) && !is_replaced_line(buf, line)
+    does_go_on(buf, options, line) && !is_replaced_line(buf, line)
 }
 
 fn is_replaced_line(buf: &[u8], line: &HeaderSpan) -> bool
