@@ -3,6 +3,7 @@ ghost use Rattle.std.specs.Prelude.{◌≡◌, ◌≢◌, ◌⊎◌, ◌++◌, �
 ghost use Rattle.std.specs.List.{filter};
 ghost use Rattle.std.specs.Option.{option_map};
 ghost use Rattle.httparse.specs.Spans.{IsHeaderWithin, IsWithin, header_bytes, span_bytes};
+ghost use Rattle.std.specs.Net.Text.{dotted_text};
 ghost use Rattle.ip_net.specs.Texts.{ip_print};
 ghost use Rattle.path_norm.specs.Escapes.{HasWholeEscapes};
 ghost use Rattle.path_norm.specs.Normal.{IsRooted, Normalises};
@@ -24,7 +25,7 @@ use head_view::HeadSpans;
 use httparse::spans::HeaderSpan;
 use ip_net::{Ip, print_ip};
 use path_norm::{PathFault, normalise};
-use px_base::{Bytes, List, Memory, fold_equal};
+use px_base::{Bytes, List, Memory, fold_equal, print_decimal};
 use std::alloc::Global;
 
 /// What is wrong with the head of a request.
@@ -242,9 +243,34 @@ fn backend_lines(
 {
     let mut all = client_lines(alloc, buf, lines)?;
     let mut address = Vec::new(alloc);
-    print_ip(alloc, peer, &mut address)?;
+    push_address(alloc, peer, &mut address)?;
     push_told(alloc, &mut all, address.as_slice(), host)?;
     Ok(all)
+}
+
+fn push_address(alloc: Global, peer: Ip, out: &mut Vec<u8>) -> Result<(), Memory>
+    ensures { OnOk result (out.new.items ≡ out.old.items ++ ip_print peer) }
+{
+    match peer {
+        Ip::V4(bits) => {
+            let octets = bits.to_be_bytes();
+            push_dotted(octets[0], octets[1], octets[2], octets[3], out)
+        }
+        Ip::V6(_) => print_ip(alloc, peer, out),
+    }
+}
+
+#[tactic(auto, using(std::proofs::Common::append_assoc))]
+fn push_dotted(a: u8, b: u8, c: u8, d: u8, out: &mut Vec<u8>) -> Result<(), Memory>
+    ensures { OnOk result (out.new.items ≡ out.old.items ++ dotted_text a b c d) }
+{
+    print_decimal(a as u64, out)?;
+    out.extend_from_slice(b".")?;
+    print_decimal(b as u64, out)?;
+    out.extend_from_slice(b".")?;
+    print_decimal(c as u64, out)?;
+    out.extend_from_slice(b".")?;
+    print_decimal(d as u64, out)
 }
 
 fn client_lines(alloc: Global, buf: &[u8], lines: &[HeaderSpan]) -> Result<List<Line>, Memory>
