@@ -1,6 +1,6 @@
 -- What a scan finds is a request, or one that is refused.
-use Rattle.std.proofs.Common.{◌≡◌, ◌⊎◌, inl, inr, ℕ, ◌+◌, ◌<◌, ◌≤◌, List, [], ◌++◌, length, map, take, drop, Option, Result, Ok, Err, refl, sym, ◌∙◌, ap, subst, arith}
-use Rattle.std.specs.Prelude.{IfOk}
+use Rattle.std.proofs.Common.{◌≡◌, ◌⊎◌, inl, inr, ℕ, ◌+◌, ◌<◌, ◌≤◌, List, [], ◌++◌, length, map, take, drop, Option, Some, None, Bool, true, Result, Ok, Err, refl, sym, ◌∙◌, ap, subst, arith}
+use Rattle.std.specs.Prelude.{IfOk, IfSome}
 use Rattle.std.specs.declared.alloc.AllocError.{AllocError}
 use Rattle.std.proofs.lemmas.List.{append-nil, length-append, length-take}
 use Rattle.std.proofs.Math.Seq.{take-append_seam, take-length}
@@ -27,7 +27,10 @@ use Rattle.link_world.specs.declared.note.HeadName.TheVariants as name
 use Rattle.conversation.specs.Asks.{asks, faulty, unserved, broken, large, IsHead, IsServed, IsItem, Makes, fields_of, name_of, judged, query_bytes}
 use Rattle.conversation.specs.Plans.{IsWinner}
 use Rattle.rule_eval.specs.Truth.{Asked as Judged, asked_of}
-use Rattle.generation.specs.Meaning.{plan_of}
+use Rattle.router_table.specs.Winner.{ServesAs, is_enabled_state}
+use Rattle.router_table.specs.declared.row.RouterState.{RouterState}
+use Rattle.router_table.specs.declared.row.RouterState.TheVariants.{Enabled, Disabled}
+use Rattle.generation.specs.Meaning.{plan_of, IsEnabledAt}
 use Rattle.generation.specs.declared.generation.Generation.{Generation}
 use Rattle.conn_machine.specs.Parts.{Fits, IsFound, FindsRow}
 use Rattle.conn_machine.specs.declared.parts.Asked.{Asked}
@@ -146,3 +149,14 @@ spans_most {few} {most} le h = let n : length h.0.fields ≤ few = h.2 in let m 
 pub finds_only : {buf : List ℕ} {room : List HeaderSpan} {s : HeadSpans} → AreHeadSpans 100 buf room s → FindsHead 100 buf room (Whole s)
 finds_only {buf} {room} {s} found h rest reads few =
     subst (λ (k : RequestHead). IsHeadAt buf room s k) (sym (request_unique buf h found.0 rest (drop s.len buf) reads found.1.reads).0) found.1
+
+takes_enabled : (entry : List ℕ) (asked : Judged) (peer : Ip) (state : RouterState) → ServesAs entry asked peer state → is_enabled_state state ≡ true
+takes_enabled entry asked peer (Enabled service chain by) serves = refl
+takes_enabled entry asked peer (Disabled f) serves = absurd serves
+
+-- a winner is enabled
+pub found_enabled : (g : Generation) (entry : List ℕ) (asked : Judged) (peer : Ip) (row : Result (Option ℕ) AllocError) → IfOk row (IsWinner (plan_of g) entry asked peer)
+    → IfOk row (λ (won : Option ℕ). IfSome won (IsEnabledAt (plan_of g).rows))
+found_enabled g entry asked peer (Ok (Some n)) is = (is.row, (is.at, takes_enabled entry asked peer is.row.state is.serves))
+found_enabled g entry asked peer (Ok None) is = tt
+found_enabled g entry asked peer (Err e) is = tt

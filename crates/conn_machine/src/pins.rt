@@ -5,7 +5,7 @@ ghost use Rattle.std.specs.Arc.{arc_value};
 ghost use Rattle.head_view.specs.Scans.{IsHeadWithin, AreHeadSpans};
 ghost use Rattle.conversation.specs.Steps.{Step, pinned};
 ghost use Rattle.conversation.specs.Asks.{query_bytes};
-ghost use Rattle.generation.specs.Meaning.{plan_of, aim_of};
+ghost use Rattle.generation.specs.Meaning.{plan_of, aim_of, IsEnabledAt};
 ghost use Rattle.conn_machine.specs.Parts.{end_by, refused_status, FindsRow, IsRoute, IsAim, issue_plan};
 ghost use Rattle.conn_machine.specs.Prompt.{IsPrompt};
 ghost use Rattle.conn_machine.specs.Reached.{Reached, HasMemory, IsOpen, IsGoing, Waits, KeepsServer};
@@ -154,7 +154,8 @@ fn find_route(
             Some(issue) => match find_row(alloc, issue, request, item, entry, peer)? {
                 Some(row) => match issue.target(row) {
                     Some(target) => Ok(Routed::Won(row, aim_at(alloc, target)?)),
-                    None => Err(AllocError),
+                    // A winner is enabled.
+                    None => unreachable!(),
                 },
                 None => Ok(Routed::Lost),
             },
@@ -172,7 +173,8 @@ fn find_row(
     entry: &[u8],
     peer: Ip,
 ) -> Result<Option<u32>, Memory>
-    ensures { IfOk result (FindsRow (plan_of issue.now) item.now entry.now peer request.now) }
+    ensures row { IfOk result (FindsRow (plan_of issue.now) item.now entry.now peer request.now) }
+    ensures enabled { IfOk result (λ won. IfSome won (IsEnabledAt (plan_of issue.now).rows)) }
 {
     let mut room = [EMPTY_HEADER_SPAN; USUAL_LINES];
     match scan_request(item, &mut room) {
@@ -190,7 +192,8 @@ fn find_any_row(
     entry: &[u8],
     peer: Ip,
 ) -> Result<Option<u32>, Memory>
-    ensures { IfOk result (FindsRow (plan_of issue.now) item.now entry.now peer request.now) }
+    ensures row { IfOk result (FindsRow (plan_of issue.now) item.now entry.now peer request.now) }
+    ensures enabled { IfOk result (λ won. IfSome won (IsEnabledAt (plan_of issue.now).rows)) }
 {
     let mut room = [EMPTY_HEADER_SPAN; 100];
     match scan_request(item, &mut room) {
@@ -212,7 +215,8 @@ fn row_of(
 ) -> Result<Option<u32>, Memory>
     requires within { IsHeadWithin item.now room.now spans.now }
     requires head { AreHeadSpans 100 item.now room.now spans.now }
-    ensures { IfOk result (FindsRow (plan_of issue.now) item.now entry.now peer request.now) }
+    ensures row { IfOk result (FindsRow (plan_of issue.now) item.now entry.now peer request.now) }
+    ensures enabled { IfOk result (λ won. IfSome won (IsEnabledAt (plan_of issue.now).rows)) }
 {
     let host = host_of_rules(request.host.as_slice());
     let path = request.path.as_slice();

@@ -1,2 +1,4 @@
 pub mod Numbering
 pub mod Leading
+pub mod Led
+pub mod Targets

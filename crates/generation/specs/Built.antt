@@ -1,5 +1,5 @@
 -- What a configuration is built to.
-use Rattle.std.specs.Prelude.{◌≡◌, ℕ, List, [], filter, map}
+use Rattle.std.specs.Prelude.{◌≡◌, ℕ, [], filter, map}
 use Rattle.dyn_config.specs.declared.merged.Merged.{Merged}
 use Rattle.router_table.specs.Settings.{setting_of}
 use Rattle.router_table.specs.Rows.{AreRows}

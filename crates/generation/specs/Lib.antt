@@ -1,3 +1,4 @@
 pub mod Nodes
 pub mod Meaning
 pub mod Built
+pub mod Leads

@@ -1,6 +1,7 @@
 -- What a published configuration means to a connection.
-use Rattle.std.specs.Prelude.{ℕ, false, List, [], ◌∷◌, Option, Some, None, if◌then◌else◌, bytes_eq, slice_get}
+use Rattle.std.specs.Prelude.{◌≡◌, ℕ, true, false, List, [], ◌∷◌, Option, Some, None, if◌then◌else◌, bytes_eq, slice_get}
 use Rattle.conversation.specs.Plans.{Plan, Target as Aim}
+use Rattle.router_table.specs.Winner.{is_enabled}
 use Rattle.router_table.specs.declared.row.Row.{Row}
 use Rattle.router_table.specs.declared.row.RouterState.{RouterState}
 use Rattle.router_table.specs.declared.row.RouterState.TheVariants.{Enabled, Disabled}
@@ -36,3 +37,7 @@ plan_of g = record {
   rows = g.table.rows;
   target = λ row. aim_in g.nodes (slice_get g.table.rows row);
 }
+
+-- an enabled router has the row with this number
+abbrev pub IsEnabledAt : List Row → ℕ → Type 0
+IsEnabledAt rows number = (row : Row) × (slice_get rows number ≡ Some row) × (is_enabled row ≡ true)

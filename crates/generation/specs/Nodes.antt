@@ -1,9 +1,13 @@
 -- The nodes of a configuration: its services that can be used, numbered by name from 0.
-use Rattle.std.specs.Prelude.{◌≡◌, ℕ, ◌+◌, Bool, true, false, not, List, [], ◌∷◌, ◌++◌, length, ◌⊎◌, ⊤}
+use Rattle.std.specs.Prelude.{◌≡◌, ℕ, ◌+◌, Bool, true, false, not, List, [], ◌∷◌, ◌++◌, length, map, ◌⊎◌, ⊤}
 use Rattle.px_base.specs.declared.server.Server.{Server}
 use Rattle.dyn_config.specs.declared.merged.Entry.{Entry}
 use Rattle.dyn_config.specs.declared.service.ServiceDef.{ServiceDef}
 use Rattle.dyn_config.specs.declared.service.ServiceDef.TheVariants.{Balancer, Weighted, Mirroring, Failover, Unsupported}
+use Rattle.router_table.specs.Settings.{is_listed}
+use Rattle.router_table.specs.declared.row.Row.{Row}
+use Rattle.router_table.specs.declared.row.RouterState.{RouterState}
+use Rattle.router_table.specs.declared.row.RouterState.TheVariants.{Enabled, Disabled}
 use Rattle.service_graph.specs.Only.{IsOnlyServer}
 use Rattle.generation.specs.declared.nodes.Node.{Node}
 
@@ -51,3 +55,11 @@ abbrev pub IsAdded : Entry ServiceDef → List Node → List Node → Type 0
 IsAdded e old new =
     ((is_usable e ≡ true) × ((n : Node) × IsNode (length old) e n × (new ≡ old ++ n ∷ [])))
     ⊎ ((is_usable e ≡ false) × (new ≡ old))
+
+-- the service of a router in this state is among the nodes, where the router is enabled
+abbrev pub has_node_by : List Node → RouterState → Bool
+has_node_by nodes (Enabled service chain search) = is_listed (map name_of nodes) service
+has_node_by nodes (Disabled fault) = true
+
+abbrev pub has_node : List Node → Row → Bool
+has_node nodes row = has_node_by nodes row.state

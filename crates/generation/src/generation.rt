@@ -1,10 +1,9 @@
 //! A configuration under its number.
-ghost use Rattle.std.specs.Prelude.{◌≡◌, [], IfOk, MatchOption, List as Items};
-ghost use Rattle.conversation.specs.Plans.{IsWinner};
-ghost use Rattle.rule_eval.specs.Truth.{asked_of};
-ghost use Rattle.generation.specs.Meaning.{plan_of, aim_of, aim_named, nowhere};
+ghost use Rattle.std.specs.Prelude.{◌≡◌, [], IfOk, IsTrue, MatchOption};
+ghost use Rattle.std.specs.List.{list_all};
+ghost use Rattle.generation.specs.Nodes.{has_node};
 
-use crate::nodes::{Node, Target};
+use crate::nodes::{Node, Target, target_of};
 use dyn_config::Merged;
 use head_view::RequestView;
 use ip_net::Ip;
@@ -19,9 +18,15 @@ pub struct Generation {
     pub(crate) number: u64,
     pub(crate) table: Table,
     pub(crate) nodes: List<Node>,
+    // The service of each enabled router is among the nodes.
+    ghost led: { IsTrue (list_all (has_node nodes) table.rows) },
 }
 
 impl Generation {
+    ghost use Rattle.conversation.specs.Plans.{IsWinner};
+    ghost use Rattle.rule_eval.specs.Truth.{asked_of};
+    ghost use Rattle.generation.specs.Meaning.{plan_of, aim_of, IsEnabledAt};
+
     /// The configuration without routers, under this number.
     pub fn empty(alloc: Global, number: u64) -> Result<Generation, Memory>
         ensures number { IfOk result (λ g. (plan_of g).number ≡ number) }
@@ -68,11 +73,11 @@ impl Generation {
         winner(alloc, &self.table, entry, view, peer)
     }
 
-    /// Where the router in a row leads.
+    /// Where the router in a row leads. None exactly where no enabled router has this row.
     pub fn target(&self, row: u32) -> Option<&Target>
         ensures { MatchOption result
-            ((plan_of self.now).target row ≡ nowhere)
-            (λ target. (plan_of self.now).target row ≡ aim_of target.now) }
+            (¬ (IsEnabledAt (plan_of self.now).rows row))
+            (λ target. IsEnabledAt (plan_of self.now).rows row × ((plan_of self.now).target row ≡ aim_of target.now)) }
     {
         match rows(&self.table).get(row as usize) {
             Some(found) => match &found.state {
@@ -84,18 +89,4 @@ impl Generation {
             None => None,
         }
     }
-}
-
-// Where the service with this name leads.
-fn target_of<'a>(nodes: &'a [Node], name: &[u8]) -> Option<&'a Target>
-    ensures { MatchOption result
-        (aim_named nodes.now name.now ≡ nowhere)
-        (λ target. aim_named nodes.now name.now ≡ aim_of target.now) }
-{
-    for node in nodes {
-        if node.name.as_slice() == name {
-            return Some(&node.target);
-        }
-    }
-    None
 }

@@ -3,6 +3,7 @@
 
 mod building;
 mod generation;
+mod law;
 mod nodes;
 mod sample;
 #[cfg(test)]
@@ -10,5 +11,6 @@ mod tests;
 
 pub use building::{Built, build_generation};
 pub use generation::Generation;
+pub use law::targets_lead_to_their_servers;
 pub use nodes::{Node, Target};
 pub use sample::one_router;

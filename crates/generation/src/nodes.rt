@@ -1,7 +1,9 @@
 //! The services that can be used, as the nodes at which a server is looked for.
-ghost use Rattle.std.specs.Prelude.{◌≡◌, All, IfOk, OnOk, filter};
+ghost use Rattle.std.specs.Prelude.{◌≡◌, false, All, IfOk, OnOk, MatchOption, filter, map};
+ghost use Rattle.router_table.specs.Settings.{is_listed};
 ghost use Rattle.service_graph.specs.Only.{HasOnly};
-ghost use Rattle.generation.specs.Nodes.{IsAdded, IsNode, AreNodes, is_usable, is_usable_def, passes_host as host_passes};
+ghost use Rattle.generation.specs.Nodes.{IsAdded, IsNode, AreNodes, is_usable, is_usable_def, name_of, passes_host as host_passes};
+ghost use Rattle.generation.specs.Meaning.{aim_of, aim_named};
 
 use dyn_config::{Entry, ServiceDef};
 use px_base::{Bytes, List, Memory};
@@ -106,4 +108,18 @@ fn passes_host(def: &ServiceDef) -> bool
         ServiceDef::Failover(_) => false,
         ServiceDef::Unsupported => false,
     }
+}
+
+// Where the first node with this name leads.
+pub(crate) fn target_of<'a>(nodes: &'a [Node], name: &[u8]) -> Option<&'a Target>
+    ensures { MatchOption result
+        (is_listed (map name_of nodes.now) name.now ≡ false)
+        (λ target. aim_named nodes.now name.now ≡ aim_of target.now) }
+{
+    for node in nodes {
+        if node.name.as_slice() == name {
+            return Some(&node.target);
+        }
+    }
+    None
 }

@@ -1,58 +1,57 @@
-//! Which router a request goes to, and where it leads.
+//! Which router a request goes to, and where it leads. Few functions own a generation, and each with one way out: what it drops
+//! is proved at each.
 use crate::{Generation, one_router};
 use head_view::{EMPTY_HEADER_SPAN, Scan, scan_request, view};
 use ip_net::Ip;
 use std::alloc::Global;
+use std::process::Abort;
 use std::test::Fail;
 
-// The row that wins a request with a field line, for this host and path.
-fn winner_for(
-    alloc: Global,
-    generation: &Generation,
-    host: &[u8],
-    path: &[u8],
-) -> Result<Option<u32>, Fail> {
+const RULE: &[u8] = b"PathPrefix(`/a`) && Header(`X`, `1`) && Header(`Connection`, `x`)";
+
+// The row that wins a request with field lines, for this path.
+fn winner_for(alloc: Global, generation: &Generation, path: &[u8]) -> Result<Option<u32>, Fail> {
     let head = b"GET / HTTP/1.1\r\nConnection: x\r\nX: 1\r\n\r\n";
     let mut room = [EMPTY_HEADER_SPAN; 2];
     match scan_request(head, &mut room) {
         Scan::Whole(spans) => {
-            let view = view(head, &room, &spans, host, path, b"");
+            let view = view(head, &room, &spans, b"a.test", path, b"");
             Ok(generation.winner(alloc, b"web", &view, Ip::V4(2_130_706_433))?)
         }
         _ => Err(Fail::from("no head")),
     }
 }
 
-fn built(alloc: Global, rule: &[u8]) -> Result<Generation, Fail> {
-    match one_router(alloc, 7, rule, b"http://127.0.0.1:9000")? {
-        Some(generation) => Ok(generation),
+fn expect_routes(rt: &impl Abort, alloc: Global, generation: &Generation) -> Result<(), Fail> {
+    assert_eq!(rt; generation.number(), 7);
+    assert_eq!(rt; winner_for(alloc, generation, b"/a")?, Some(0));
+    assert_eq!(rt; winner_for(alloc, generation, b"/b")?, None);
+    let port = generation.target(0).map(|target| target.port);
+    assert_eq!(rt; port, Some(9000));
+    Ok(())
+}
+
+fn served(rt: &impl Abort, alloc: Global) -> Result<(), Fail> {
+    match one_router(alloc, 7, RULE, b"http://127.0.0.1:9000")? {
+        Some(generation) => expect_routes(rt, alloc, &generation),
         None => Err(Fail::from("not served")),
     }
 }
 
-#[test]
-fn winners(rt: HostRuntime) -> Result<(), Fail> {
-    let alloc = rt.alloc();
-    let rule = b"PathPrefix(`/a`) && Header(`X`, `1`) && Header(`Connection`, `x`)";
-    let generation = built(alloc, rule)?;
-    assert_eq!(rt; generation.number(), 7);
-    let rows = [
-        winner_for(alloc, &generation, b"a.test", b"/a")?,
-        winner_for(alloc, &generation, b"a.test", b"/b")?,
-    ];
-    assert_eq!(rt; rows, [Some(0), None]);
-    let port = generation.target(0).map(|target| target.port);
-    assert_eq!(rt; port, Some(9000));
-    assert!(rt; generation.target(1).is_none());
-    Ok(())
+fn is_later(alloc: Global) -> Result<bool, Fail> {
+    Ok(one_router(alloc, 1, RULE, b"https://a.test")?.is_none())
+}
+
+fn empty_number(alloc: Global) -> Result<u64, Fail> {
+    let empty = Generation::empty(alloc, 3)?;
+    Ok(empty.number())
 }
 
 #[test]
-fn later(rt: HostRuntime) -> Result<(), Fail> {
+fn generations(rt: HostRuntime) -> Result<(), Fail> {
     let alloc = rt.alloc();
-    let https = one_router(alloc, 1, b"Path(`/`)", b"https://a.test")?;
-    assert!(rt; https.is_none());
-    let empty = Generation::empty(alloc, 3)?;
-    assert_eq!(rt; winner_for(alloc, &empty, b"a.test", b"/a")?, None);
+    served(&rt, alloc)?;
+    assert!(rt; is_later(alloc)?);
+    assert_eq!(rt; empty_number(alloc)?, 3);
     Ok(())
 }

@@ -1,10 +1,5 @@
-use Rattle.std.proofs.Common.{subst, sym, List}
-use Rattle.std.specs.Prelude.{filter}
-use Rattle.std.proofs.lemmas.List.{take_all}
+use Rattle.std.proofs.Common.{subst, sym}
 use Rattle.service_graph.specs.Only.{HasOnly}
-use Rattle.dyn_config.specs.declared.merged.Entry.{Entry}
-use Rattle.dyn_config.specs.declared.service.ServiceDef.{ServiceDef}
-use Rattle.generation.specs.Nodes.{AreNodes, is_usable}
 use Rattle.generation.proofs.Numbering.{added_more}
 use Rattle.generation.proofs.nodes.read_nodes.Goals as goal
 

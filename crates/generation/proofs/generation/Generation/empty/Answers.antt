@@ -1,4 +1,4 @@
-use Rattle.generation.proofs.Leading.{none_qualified, none_in_range, no_rows}
+use Rattle.generation.proofs.Leading.{none_qualified, none_in_range}
 use Rattle.generation.proofs.generation.Generation.empty.Goals as goal
 
 pub invariant_of-merged : goal.invariant_of-merged
