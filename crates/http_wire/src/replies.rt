@@ -150,7 +150,7 @@ fn kept_lines(
     ensures { IfOk result (λ kept. map field_of kept ≡ filter (is_kept tells (lines_at buf.now lines.now)) (lines_at buf.now lines.now)) }
 {
     let options = option_lines(buf, lines);
-    let mut kept = List::new(alloc);
+    let mut kept = List::from_vec(Vec::with_capacity(alloc, lines.len())?);
     for line in lines {
         if is_kept_line(buf, lines, options, line, tells) {
             kept.push(line_at(alloc, buf, line)?)?;

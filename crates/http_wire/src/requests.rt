@@ -28,6 +28,9 @@ use path_norm::{PathFault, normalise};
 use px_base::{Bytes, List, Memory, fold_equal, print_decimal};
 use std::alloc::Global;
 
+/// As many lines say what the proxy knows of the client.
+const TOLD_LINES: usize = 5;
+
 /// What is wrong with the head of a request.
 #[derive(Clone, Copy, Debug, PartialEq, Eq)]
 pub enum HeadFault {
@@ -242,7 +245,7 @@ fn backend_lines(
     ensures { IfOk result (λ all. map field_of all ≡ lines_for_backend peer host.now (lines_at buf.now lines.now)) }
 {
     let mut all = client_lines(alloc, buf, lines)?;
-    let mut address = Vec::new(alloc);
+    let mut address = Vec::with_capacity(alloc, 16)?;
     push_address(alloc, peer, &mut address)?;
     push_told(alloc, &mut all, address.as_slice(), host)?;
     Ok(all)
@@ -278,7 +281,7 @@ fn client_lines(alloc: Global, buf: &[u8], lines: &[HeaderSpan]) -> Result<List<
     ensures { IfOk result (λ kept. map field_of kept ≡ filter (goes_to_backend (lines_at buf.now lines.now)) (lines_at buf.now lines.now)) }
 {
     let options = option_lines(buf, lines);
-    let mut kept = List::new(alloc);
+    let mut kept = List::from_vec(Vec::with_capacity(alloc, lines.len() + TOLD_LINES)?);
     for line in lines {
         if does_go_to_backend(buf, lines, options, line) {
             kept.push(line_at(alloc, buf, line)?)?;
