@@ -1,5 +1,5 @@
 -- What a scan finds is a request, or one that is refused.
-use Rattle.std.proofs.Common.{◌≡◌, ◌⊎◌, inl, inr, ℕ, ◌+◌, ◌<◌, ◌≤◌, List, [], ◌++◌, length, map, take, drop, Option, Some, None, Bool, true, Result, Ok, Err, refl, sym, ◌∙◌, ap, subst, arith}
+use Rattle.std.proofs.Common.{◌≡◌, ◌⊎◌, inl, inr, ℕ, ◌+◌, ◌<◌, ◌≤◌, List, [], ◌++◌, length, map, take, drop, Option, Some, None, true, Result, Ok, Err, refl, sym, ◌∙◌, ap, subst, arith}
 use Rattle.std.specs.Prelude.{IfOk, IfSome}
 use Rattle.std.specs.declared.alloc.AllocError.{AllocError}
 use Rattle.std.proofs.lemmas.List.{append-nil, length-append, length-take}
@@ -157,6 +157,6 @@ takes_enabled entry asked peer (Disabled f) serves = absurd serves
 -- a winner is enabled
 pub found_enabled : (g : Generation) (entry : List ℕ) (asked : Judged) (peer : Ip) (row : Result (Option ℕ) AllocError) → IfOk row (IsWinner (plan_of g) entry asked peer)
     → IfOk row (λ (won : Option ℕ). IfSome won (IsEnabledAt (plan_of g).rows))
-found_enabled g entry asked peer (Ok (Some n)) is = (is.row, (is.at, takes_enabled entry asked peer is.row.state is.serves))
+found_enabled g entry asked peer (Ok (Some n)) is = (is.row, is.at, takes_enabled entry asked peer is.row.state is.serves)
 found_enabled g entry asked peer (Ok None) is = tt
 found_enabled g entry asked peer (Err e) is = tt
