@@ -7,7 +7,7 @@ ghost use Rattle.back_machine.specs.Exchanges.{IsOpen, broken_by, with_left, Exc
 use crate::content::{Content, content_from};
 use crate::reading::{Found, length_of, read_on};
 use crate::state::{BackCause, BackState};
-use http_wire::{Reply, Request, spell_request};
+use http_wire::{Reply, Request, request_head};
 use px_base::{Bytes, Memory, Server, print_decimal};
 use std::alloc::Global;
 use std::marker::Model;
@@ -45,10 +45,8 @@ impl Back {
         ensures reached { IfOk result
             (Exchanged (forwarded request.now server.now pass_host) request.now.method [] [] [] false false) }
     {
-        let authority = authority(alloc, server)?;
         let method = Bytes::from_slice(alloc, request.method.as_slice())?;
-        let mut pending = Vec::new(alloc);
-        spell_request(alloc, request, &authority, pass_host, &mut pending)?;
+        let pending = forwarded(alloc, request, server, pass_host)?;
         Ok(Back {
             method,
             pending,
@@ -162,6 +160,22 @@ impl Back {
     {
         self.state = self.state.broken_by(BackCause::Failed);
     }
+}
+
+// The head that goes to the server.
+fn forwarded(
+    alloc: Global,
+    request: &Request,
+    server: &Server,
+    pass_host: bool,
+) -> Result<Vec<u8>, Memory>
+    ensures { IfOk result (λ text. text.items ≡ forwarded request.now server.now pass_host) }
+{
+    if pass_host {
+        return request_head(alloc, request, &[], pass_host);
+    }
+    let authority = authority(alloc, server)?;
+    request_head(alloc, request, &authority, pass_host)
 }
 
 // The server's authority: its host, and its port unless it is that of the scheme.

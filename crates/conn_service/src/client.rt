@@ -16,6 +16,9 @@ use link_world::{LinkRead, LinkWrite, World};
 use px_base::Memory;
 use std::alloc::Global;
 
+// As many bytes are read at once where none wait: most requests fit, and a link that gives nothing costs little.
+const FIRST_ROOM: usize = 1_000;
+
 /// Reads the client's link, where it may be read. Answers whether anything came of it.
 pub(crate) fn receive<W: World>(
     conn: &mut Conn,
@@ -60,6 +63,9 @@ fn room_for(conn: &Conn, reads: &Reads) -> Option<usize>
     let held = conn.input.as_slice().len();
     if held >= ROOM {
         return None;
+    }
+    if held == 0 {
+        return Some(FIRST_ROOM);
     }
     Some(ROOM - held)
 }

@@ -20,7 +20,7 @@ use px_base::Memory;
 use std::alloc::{AllocError, Global};
 use std::sync::Wait;
 
-/// As many bytes of the client wait at most, and as many are read at once.
+/// As many bytes of the client wait at most, and as many are read at once at most.
 pub(crate) const ROOM: usize = 32_768;
 
 /// A link is read so often at most before the next wait.

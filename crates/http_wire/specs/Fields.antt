@@ -1,10 +1,11 @@
 -- The field lines of a head: what the values of one name list, and which lines go on.
-use Rattle.std.specs.Prelude.{ℕ, ◌-◌, ◌==◌, Bool, not, ◌||◌, List, length, take, drop, map, codes, nat_eq}
+use Rattle.std.specs.Prelude.{◌≡◌, ℕ, ◌-◌, ◌==◌, Bool, not, ◌||◌, List, length, take, drop, map, codes, nat_eq}
 use Rattle.std.specs.List.{slice_split, list_any, prefix_len, suffix_len}
 use Rattle.std.specs.Cmp.Lexicographic.{pointwise}
 use Rattle.std.specs.Char.{is_ascii_whitespace}
 use Rattle.std.specs.Str.{str_eq_ignore_ascii_case}
-use Rattle.head_view.specs.Lines.{Line as Field, has_name, values_of}
+use Rattle.httparse.specs.declared.spans.HeaderSpan.{HeaderSpan}
+use Rattle.head_view.specs.Lines.{Line as Field, has_name, values_of, lines_at}
 use Rattle.http_wire.specs.declared.message.Line.{Line}
 
 -- the same bytes
@@ -39,6 +40,10 @@ lists name text = list_any (λ part. str_eq_ignore_ascii_case (trimmed part) nam
 -- whether a `Connection` line lists the name (RFC 9110 section 7.6.1)
 abbrev pub is_listed : List Field → List ℕ → Bool
 is_listed fields name = list_any (lists name) (values_of (codes "Connection") fields)
+
+-- the `Connection` lines of both say the same
+abbrev pub HaveSameOptions : List ℕ → List HeaderSpan → List HeaderSpan → Type 0
+HaveSameOptions buf some all = values_of (codes "Connection") (lines_at buf some) ≡ values_of (codes "Connection") (lines_at buf all)
 
 -- the names that speak of one connection alone
 abbrev pub is_hop_by_hop : Field → Bool

@@ -1,10 +1,10 @@
 //! The field lines of a head that lies in a buffer (RFC 9110 section 5).
-ghost use Rattle.std.specs.Prelude.{◌≡◌, ◌≢◌, ◌↔◌, ◌++◌, ◌∷◌, ◌<◌, [], List, false, ℕ, All, IsTrue, IfOk, MatchOption, length, map, filter};
+ghost use Rattle.std.specs.Prelude.{◌≡◌, ◌≢◌, ◌&&◌, codes, ◌↔◌, ◌++◌, ◌∷◌, ◌<◌, [], List, false, ℕ, All, IsTrue, IfOk, MatchOption, length, map, filter};
 ghost use Rattle.std.specs.List.{list_all, list_any};
 ghost use Rattle.std.specs.Str.{str_eq_ignore_ascii_case};
 ghost use Rattle.httparse.specs.Spans.{IsHeaderWithin, header_bytes};
 ghost use Rattle.head_view.specs.Lines.{AreWithin, lines_at, has_name, values_of};
-ghost use Rattle.http_wire.specs.Fields.{field_of, is_same, is_comma, trimmed, elements, lists, is_listed, is_hop_by_hop, goes_on};
+ghost use Rattle.http_wire.specs.Fields.{field_of, is_same, is_comma, trimmed, elements, lists, is_listed, is_hop_by_hop, goes_on, HaveSameOptions};
 
 use crate::message::Line;
 use httparse::spans::HeaderSpan;
@@ -126,11 +126,40 @@ pub(crate) fn is_in_connection(buf: &[u8], lines: &[HeaderSpan], name: &[u8]) ->
     ensures { result ≡ is_listed (lines_at buf.now lines.now) name.now }
 {
     for line in lines {
-        if is_named(buf, line, b"Connection") && is_among(line.value.of(buf), name) {
+        if is_option_line(buf, line, name) {
             return true;
         }
     }
     false
+}
+
+// Whether this is a `Connection` line that lists the name. A value that is too short isn't looked at.
+#[tactic(auto, using(crate::proofs::Options::too_short))]
+fn is_option_line(buf: &[u8], line: &HeaderSpan, name: &[u8]) -> bool
+    requires { IsHeaderWithin (length buf.now) line.now }
+    ensures { let field = header_bytes buf.now line.now in result ≡ (has_name (codes "Connection") field && lists name.now field.1) }
+{
+    let value = line.value.of(buf);
+    if value.len() < name.len() {
+        return false;
+    }
+    is_named(buf, line, b"Connection") && is_among(value, name)
+}
+
+/// The lines from the first `Connection` line on: those before it list nothing.
+pub(crate) fn option_lines<'a>(buf: &[u8], lines: &'a [HeaderSpan]) -> &'a [HeaderSpan]
+    requires { AreWithin buf.now lines.now }
+    ensures within { AreWithin buf.now result.now }
+    ensures same { HaveSameOptions buf.now result.now lines.now }
+{
+    let mut left = lines;
+    while let Some((line, rest)) = left.split_first() {
+        if is_named(buf, line, b"Connection") {
+            return left;
+        }
+        left = rest;
+    }
+    left
 }
 
 // Whether the list has this name as an element, without case.

@@ -18,5 +18,5 @@ pub use message::{Line, Reply, Request};
 pub use own::{own_content, own_reply};
 pub use replies::{ReplyFault, ReplyRefused, is_interim_status, take_reply};
 pub use requests::{HeadFault, RequestRefused, take_request};
-pub use spell::{spell_reply, spell_request};
+pub use spell::{request_head, spell_reply, spell_request};
 pub use targets::host_of_rules;

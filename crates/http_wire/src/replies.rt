@@ -4,10 +4,10 @@ ghost use Rattle.std.specs.List.{filter};
 ghost use Rattle.httparse.specs.Spans.{IsHeaderWithin, IsWithin, header_bytes, span_bytes};
 ghost use Rattle.head_view.specs.Lines.{AreWithin, lines_at};
 ghost use Rattle.head_view.specs.Replies.{IsHeadWithin};
-ghost use Rattle.http_wire.specs.Fields.{field_of};
+ghost use Rattle.http_wire.specs.Fields.{field_of, HaveSameOptions};
 ghost use Rattle.http_wire.specs.Replies.{is_interim, is_head, has_no_body, tells_length, is_kept, reply_framing_of, IsReplyOf, IsReplyFault, HasNoFault, IfRefused};
 
-use crate::fields::{does_go_on, is_named, line_at};
+use crate::fields::{does_go_on, is_named, line_at, option_lines};
 use crate::framing::{FramingFault, framing_of};
 use crate::message::{Line, Reply};
 use body_codec::Framing;
@@ -149,19 +149,28 @@ fn kept_lines(
     requires { AreWithin buf.now lines.now }
     ensures { IfOk result (λ kept. map field_of kept ≡ filter (is_kept tells (lines_at buf.now lines.now)) (lines_at buf.now lines.now)) }
 {
-    let mut kept = List::new(alloc);
+    let options = option_lines(buf, lines);
+    let mut kept = List::from_vec(Vec::with_capacity(alloc, lines.len())?);
     for line in lines {
-        if is_kept_line(buf, lines, line, tells) {
+        if is_kept_line(buf, lines, options, line, tells) {
             kept.push(line_at(alloc, buf, line)?)?;
         }
     }
     Ok(kept)
 }
 
-fn is_kept_line(buf: &[u8], lines: &[HeaderSpan], line: &HeaderSpan, tells: bool) -> bool
-    requires all { AreWithin buf.now lines.now }
+// Whether the line goes on to the client, among `lines`, whose `Connection` lines are all among `options`.
+fn is_kept_line(
+    buf: &[u8],
+    lines: &[HeaderSpan],
+    options: &[HeaderSpan],
+    line: &HeaderSpan,
+    tells: bool,
+) -> bool
+    requires within { AreWithin buf.now options.now }
+    requires same { HaveSameOptions buf.now options.now lines.now }
     requires one { IsHeaderWithin (length buf.now) line.now }
     ensures { result ≡ is_kept tells (lines_at buf.now lines.now) (header_bytes buf.now line.now) }
 {
-    does_go_on(buf, lines, line) && (tells || !is_named(buf, line, b"Content-Length"))
+    does_go_on(buf, options, line) && (tells || !is_named(buf, line, b"Content-Length"))
 }

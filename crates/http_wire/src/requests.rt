@@ -3,17 +3,20 @@ ghost use Rattle.std.specs.Prelude.{◌≡◌, ◌≢◌, ◌⊎◌, ◌++◌, �
 ghost use Rattle.std.specs.List.{filter};
 ghost use Rattle.std.specs.Option.{option_map};
 ghost use Rattle.httparse.specs.Spans.{IsHeaderWithin, IsWithin, header_bytes, span_bytes};
+ghost use Rattle.std.specs.Net.Text.{dotted_text};
 ghost use Rattle.ip_net.specs.Texts.{ip_print};
 ghost use Rattle.path_norm.specs.Escapes.{HasWholeEscapes};
 ghost use Rattle.path_norm.specs.Normal.{IsRooted, Normalises};
 ghost use Rattle.head_view.specs.Lines.{AreWithin, lines_at};
 ghost use Rattle.head_view.specs.Scans.{IsHeadWithin};
-ghost use Rattle.http_wire.specs.Fields.{field_of};
+ghost use Rattle.http_wire.specs.Fields.{field_of, HaveSameOptions};
 ghost use Rattle.http_wire.specs.Framing.{encodings_of, lengths_of, framing_by, IsFramed};
 ghost use Rattle.http_wire.specs.Targets.{path_of, query_of, is_bad_target};
 ghost use Rattle.http_wire.specs.Requests.{hosts_of, first_or_empty, host_in, HasNoHost, HasTwoHosts, IsHosted, is_forwarded, is_replaced, goes_to_backend, told_fields, lines_for_backend, keeps, IsRequestOf, IsBadTarget, IsSound, IsHeadFault, TakesRequest};
 
-use crate::fields::{does_go_on, has_none, is_in_connection, is_named, line_at, only_value};
+use crate::fields::{
+    does_go_on, has_none, is_in_connection, is_named, line_at, only_value, option_lines,
+};
 use crate::framing::{FramingFault, framing_of};
 use crate::message::{Line, Request};
 use crate::targets::{host_text, is_refused_target, path_in, port_in, query_in};
@@ -22,8 +25,11 @@ use head_view::HeadSpans;
 use httparse::spans::HeaderSpan;
 use ip_net::{Ip, print_ip};
 use path_norm::{PathFault, normalise};
-use px_base::{Bytes, List, Memory, fold_equal};
+use px_base::{Bytes, List, Memory, fold_equal, print_decimal};
 use std::alloc::Global;
+
+/// As many lines say what the proxy knows of the client.
+const TOLD_LINES: usize = 5;
 
 /// What is wrong with the head of a request.
 #[derive(Clone, Copy, Debug, PartialEq, Eq)]
@@ -239,31 +245,64 @@ fn backend_lines(
     ensures { IfOk result (λ all. map field_of all ≡ lines_for_backend peer host.now (lines_at buf.now lines.now)) }
 {
     let mut all = client_lines(alloc, buf, lines)?;
-    let mut address = Vec::new(alloc);
-    print_ip(alloc, peer, &mut address)?;
+    let mut address = Vec::with_capacity(alloc, 16)?;
+    push_address(alloc, peer, &mut address)?;
     push_told(alloc, &mut all, address.as_slice(), host)?;
     Ok(all)
+}
+
+fn push_address(alloc: Global, peer: Ip, out: &mut Vec<u8>) -> Result<(), Memory>
+    ensures { OnOk result (out.new.items ≡ out.old.items ++ ip_print peer) }
+{
+    match peer {
+        Ip::V4(bits) => {
+            let octets = bits.to_be_bytes();
+            push_dotted(octets[0], octets[1], octets[2], octets[3], out)
+        }
+        Ip::V6(_) => print_ip(alloc, peer, out),
+    }
+}
+
+#[tactic(auto, using(std::proofs::Common::append_assoc))]
+fn push_dotted(a: u8, b: u8, c: u8, d: u8, out: &mut Vec<u8>) -> Result<(), Memory>
+    ensures { OnOk result (out.new.items ≡ out.old.items ++ dotted_text a b c d) }
+{
+    print_decimal(a as u64, out)?;
+    out.extend_from_slice(b".")?;
+    print_decimal(b as u64, out)?;
+    out.extend_from_slice(b".")?;
+    print_decimal(c as u64, out)?;
+    out.extend_from_slice(b".")?;
+    print_decimal(d as u64, out)
 }
 
 fn client_lines(alloc: Global, buf: &[u8], lines: &[HeaderSpan]) -> Result<List<Line>, Memory>
     requires { AreWithin buf.now lines.now }
     ensures { IfOk result (λ kept. map field_of kept ≡ filter (goes_to_backend (lines_at buf.now lines.now)) (lines_at buf.now lines.now)) }
 {
-    let mut kept = List::new(alloc);
+    let options = option_lines(buf, lines);
+    let mut kept = List::from_vec(Vec::with_capacity(alloc, lines.len() + TOLD_LINES)?);
     for line in lines {
-        if does_go_to_backend(buf, lines, line) {
+        if does_go_to_backend(buf, lines, options, line) {
             kept.push(line_at(alloc, buf, line)?)?;
         }
     }
     Ok(kept)
 }
 
-fn does_go_to_backend(buf: &[u8], lines: &[HeaderSpan], line: &HeaderSpan) -> bool
-    requires all { AreWithin buf.now lines.now }
+// Whether the line goes to the backend, among `lines`, whose `Connection` lines are all among `options`.
+fn does_go_to_backend(
+    buf: &[u8],
+    lines: &[HeaderSpan],
+    options: &[HeaderSpan],
+    line: &HeaderSpan,
+) -> bool
+    requires within { AreWithin buf.now options.now }
+    requires same { HaveSameOptions buf.now options.now lines.now }
     requires one { IsHeaderWithin (length buf.now) line.now }
     ensures { result ≡ goes_to_backend (lines_at buf.now lines.now) (header_bytes buf.now line.now) }
 {
-    does_go_on(buf, lines, line) && !is_replaced_line(buf, line)
+    does_go_on(buf, options, line) && !is_replaced_line(buf, line)
 }
 
 fn is_replaced_line(buf: &[u8], line: &HeaderSpan) -> bool

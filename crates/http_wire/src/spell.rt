@@ -8,6 +8,9 @@ use body_codec::Framing;
 use px_base::{Bytes, Memory, print_decimal};
 use std::alloc::Global;
 
+/// As many bytes as most heads have at most.
+const HEAD_ROOM: usize = 512;
+
 /// Appends the head of a request as it goes to a backend, with `Connection: close`.
 ///
 /// `Host` is the request's host text where `pass_host` is set, else `authority`. Where memory runs out nothing is
@@ -43,7 +46,10 @@ pub fn spell_reply(
     out.extend_from_slice(text.as_slice())
 }
 
-fn request_head(
+/// The head of a request as it goes to a backend, with `Connection: close`.
+///
+/// `Host` is the request's host text where `pass_host` is set, else `authority`.
+pub fn request_head(
     alloc: Global,
     request: &Request,
     authority: &[u8],
@@ -56,7 +62,7 @@ fn request_head(
     } else {
         authority
     };
-    let mut text = Vec::new(alloc);
+    let mut text = Vec::with_capacity(alloc, HEAD_ROOM)?;
     push_request_line(request, &mut text)?;
     push_field(b"Host", host, &mut text)?;
     push_lines(request.lines.as_slice(), &mut text)?;
@@ -69,7 +75,7 @@ fn request_head(
 fn reply_head(alloc: Global, reply: &Reply, version: u8, close: bool) -> Result<Vec<u8>, Memory>
     ensures { IfOk result (λ text. text.items ≡ reply_text reply.now version close) }
 {
-    let mut text = Vec::new(alloc);
+    let mut text = Vec::with_capacity(alloc, HEAD_ROOM)?;
     push_status_line(reply, &mut text)?;
     push_lines(reply.lines.as_slice(), &mut text)?;
     push_reply_framing(reply.framing, version, &mut text)?;
