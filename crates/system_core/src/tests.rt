@@ -2,15 +2,18 @@
 ghost use Rattle.std.specs.Prelude.{ℕ, IfOk};
 ghost use Rattle.system_core.specs.Answers.{IsNext};
 
+use crate::draws::Pop;
 use crate::{Event, Kind, Refused, System};
 use conn_machine::{EventKind, StateName};
 use generation::{Generation, one_router};
 use ip_net::Ip;
+use link_world::{NodePick, note_text};
 use px_base::{Bytes, Memory};
 use std::alloc::Global;
 use std::process::Abort;
 use std::sync::Arc;
 use std::test::Fail;
+use wrr_deadlines::Pick;
 
 // An event that brings no configuration.
 #[derive(Clone, Copy)]
@@ -157,4 +160,52 @@ fn refusals(rt: HostRuntime) -> Result<(), Fail> {
         state: StateName::Idle,
     };
     refuses(&rt, alloc, &mut system, Step::Arrive, arrive)
+}
+
+const UNAVAILABLE: &[u8] =
+    b"HTTP/1.1 503 Service Unavailable\r\nContent-Type: text/plain; charset=utf-8\r\nContent-Length: 24\r\n\r\n503 service unavailable\n";
+
+// The last pick of the balancer of the first configuration: all its pops are taken.
+const LAST: Pop = Pop {
+    number: 1,
+    pick: NodePick {
+        node: 0,
+        pick: Pick {
+            from: 4_611_686_018_427_387_903,
+            to: 4_611_686_018_427_387_904,
+            child: 0,
+        },
+    },
+};
+
+// A balancer without pops left: the draw is refused, and the client gets 503.
+#[test]
+fn spent(rt: HostRuntime) -> Result<(), Fail> {
+    let alloc = rt.alloc();
+    let mut system = system_with_router(alloc)?;
+    system.pops.push(LAST)?;
+    run(
+        alloc,
+        &mut system,
+        &[
+            Step::Publish,
+            Step::Arrive,
+            Step::Bytes(0, REQUEST),
+            Step::Pin(0),
+            Step::Look(0),
+            Step::Draw(0),
+            Step::Took(0, UNAVAILABLE.len()),
+        ],
+    )?;
+    assert_eq!(rt; system.links().len(), 1);
+    assert_eq!(rt; system.links()[0].sent.as_slice(), UNAVAILABLE);
+    let mut notes = Vec::new(alloc);
+    for note in system.notes() {
+        note_text(alloc, note, &mut notes)?;
+    }
+    assert_eq!(rt;
+        notes.as_slice(),
+        b"note 0 1 gen 1 router 0 status 503 Spent 0 looks 0:1 picks - turns - backs -\n".as_slice()
+    );
+    Ok(())
 }
