@@ -4,6 +4,7 @@ use Rattle.std.specs.Prelude.{IfSome}
 use Rattle.std.specs.List.{AllByRecursion}
 use Rattle.std.proofs.lemmas.Bool.{cases_eq}
 use Rattle.std.proofs.lemmas.List.{append-nil}
+use Rattle.std.proofs.lemmas.List.Concat.{flat_map-append}
 use Rattle.link_world.specs.Log.{Event, LinkEvent, on, closed, dialled, noted, note_by, is_of, happening, history_of, only_if, notes, IsFresh}
 use Rattle.link_world.specs.Seen.{Seen, Rose, with_event, Faulted, Came, Closed}
 use Rattle.link_world.specs.Lately.{Lately, SameAt, OnlyAt}
@@ -12,6 +13,7 @@ use Rattle.conversation.specs.Steps.{Step, happened, failed, history, failures, 
 use Rattle.conn_machine.specs.declared.conn.Conn.{Conn}
 use Rattle.conn_machine.specs.declared.parts.Client.{Client}
 use Rattle.conn_service.specs.Moments.{Moment, moment, IsExchanging, Given, Owns}
+use Rattle.conn_service.specs.Arrivals.{arrivals, arrival_by}
 use Rattle.conn_service.specs.Went.{extended, Still, WorldWent}
 use Rattle.conn_service.proofs.Lists.{same_link, other_link, all_both, none_in_neither, extended_twice, extended_none, fresh_before, ran-append, history-append, failures-append, notes-append, no_steps, new_both, not_false, not_before}
 
@@ -61,6 +63,7 @@ world_then {x} {y} {z} {a} {b} {da} {db} P Q R client first_of second_of p q = r
   shows = λ l. history-append l da db ∙ ap (λ (h : List LinkEvent). h ++ history l db) (p.shows l) ∙ ap (λ (h : List LinkEvent). history_of l a ++ h) (q.shows l) ∙ sym (ran-append l a b);
   noted = λ l ne. ap notes (history-append l da db) ∙ notes-append (history l da) (history l db)
       ∙ both (notes (history l da)) (notes (history l db)) (p.noted l ne) (q.noted l (λ is. ne (is ∙ ap (λ (k : Client). k.link) client)));
+  none_came = flat_map-append arrival_by a b ∙ both (arrivals a) (arrivals b) p.none_came q.none_came;
   others = λ l un. still_then (p.others l (λ o. un (first_of l o))) (q.others l (λ o. un (second_of l o)));
   come = λ l h. q.come l (p.come l h);
   fresh = λ l none. new_both (p.fresh l (not_before (y.seen.come l) (z.seen.come l) (q.come l) none)) (q.fresh l none);
@@ -102,13 +105,14 @@ pub record Alone (link : ℕ) (client : ℕ) (ran : List Event) (did : List Step
 
 -- one link of the connection alone
 pub world_at : {link : ℕ} {s t : Seen} {l m : Lately} {f g : Desk} {c d : Conn} {ran : List Event} {did : List Step}
-    → t.come link ≡ true → SeenAt link s t → OnlyAt link l m → t.log ≡ extended s.log ran → Alone link c.client.link ran did
+    → t.come link ≡ true → SeenAt link s t → OnlyAt link l m → t.log ≡ extended s.log ran → Alone link c.client.link ran did → arrivals ran ≡ []
     → (Given s t link → IfSome s.log (IsFresh link)) → (failures link did ≢ [] → Rose (s.faults link) (t.faults link))
     → WorldWent (λ k. k ≡ link) (moment s l f c) (moment t m g d) ran did
-world_at {link} {s} {t} {l} {m} {f} {g} {c} {d} {ran} {did} come seen only log alone unlogged fails = record {
+world_at {link} {s} {t} {l} {m} {f} {g} {c} {d} {ran} {did} come seen only log alone none_came unlogged fails = record {
   log = log;
   shows = alone.shows;
   noted = alone.noted;
+  none_came = none_came;
   others = λ k un. apart k un;
   come = seen.come;
   fresh = λ k none. (alone.quiet k (λ same. not_false (subst (λ (n : ℕ). t.come n ≡ true) (sym same) come) none)).1;

@@ -10,6 +10,7 @@ use Rattle.conn_machine.specs.Reached.{Reached, IsUnended}
 use Rattle.conn_machine.specs.declared.conn.Conn.{Conn}
 use Rattle.conn_service.specs.Moments.{Moment, moment, IsExchanging, Linked, Given, Owns, Stands}
 use Rattle.conn_service.specs.Pins.{DeskWent}
+use Rattle.conn_service.specs.Arrivals.{arrivals}
 
 -- the log, where it is told, with these events after it
 abbrev pub extended : Option (List Event) → List Event → Option (List Event)
@@ -26,11 +27,12 @@ pub record Still (x y : Moment) (ran : List Event) (did : List Step) (link : ℕ
 
 -- The world did these events and no others. What happened on a link is what the connection was told of it, and
 -- happened only on links that it owns, of which the log told nothing where it was given since. Notes are told on
--- the client's link alone. A link whose failure it was told of has failed.
+-- the client's link alone. A link whose failure it was told of has failed. No client came.
 pub record WorldWent (owns : ℕ → Type 0) (x y : Moment) (ran : List Event) (did : List Step) : Type 0 where
   pub log : y.seen.log ≡ extended x.seen.log ran
   pub shows : (link : ℕ) → history link did ≡ history_of link ran
   pub noted : (link : ℕ) → link ≢ x.conn.client.link → notes (history link did) ≡ []
+  pub none_came : arrivals ran ≡ []
   pub others : (link : ℕ) → (owns link → ⊥) → Still x y ran did link
   pub come : (link : ℕ) → x.seen.come link ≡ true → y.seen.come link ≡ true
   pub fresh : (link : ℕ) → y.seen.come link ≡ false → IsNew link did

@@ -12,3 +12,4 @@ mod tests;
 mod turn;
 
 pub use service::{quit, serve, stop};
+pub use turn::ROOM;

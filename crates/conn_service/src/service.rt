@@ -9,7 +9,7 @@ ghost use Rattle.conn_service.specs.Went.{Went, Lost};
 ghost use Rattle.conn_service.specs.Calm.{Calm};
 
 use crate::links::{hang_up, release, server_of};
-use crate::turn::work;
+use crate::turn::{ROOM, work};
 use conn_machine::Conn;
 use desk::Shared;
 use link_world::World;
@@ -19,12 +19,14 @@ use std::sync::Wait;
 
 /// Serves a connection until nothing moves, and tells its notes. A connection that found no memory ends; one that ended
 /// has its links closed. A note that finds no memory is lost, and with it the connection, whose end is never noted.
+/// What links give is read into the buffer; what it held before is of no account.
 pub fn serve<R: Wait, W: World, S: Shared>(
     conn: &mut Conn,
     rt: &R,
     alloc: Global,
     world: &mut W,
     shared: &mut S,
+    buffer: &mut [u8; ROOM],
 ) -> Result<(), Memory>
     requires ready { IsReady (W.seen world.old) (S.desk shared.old).generations conn.old }
     requires tracked { IsTracked (W.seen world.old) conn.old }
@@ -36,7 +38,7 @@ pub fn serve<R: Wait, W: World, S: Shared>(
     ensures told { OnOk result (conn.new.notes.items ≡ []) }
     ensures calm { OnOk result (Calm (W.lately world.new) conn.new) }
 {
-    attempt(conn, rt, alloc, world, shared);
+    attempt(conn, rt, alloc, world, shared, buffer);
     hang_up(conn, world);
     tell(conn, alloc, world)
 }
@@ -78,6 +80,7 @@ fn attempt<R: Wait, W: World, S: Shared>(
     alloc: Global,
     world: &mut W,
     shared: &mut S,
+    buffer: &mut [u8; ROOM],
 )
     requires linked { Linked (W.seen world.old) conn.old }
     requires below { IsBelow (S.desk shared.old).generations conn.old.current.number }
@@ -87,7 +90,7 @@ fn attempt<R: Wait, W: World, S: Shared>(
     ensures kept { IsOpen conn.new ⊎ IsEnding conn.new.phase }
     ensures calm { Calm (W.lately world.new) conn.new }
 {
-    let Ok(()) = work(conn, rt, alloc, world, shared) else {
+    let Ok(()) = work(conn, rt, alloc, world, shared, buffer) else {
         give_up(conn, world);
         return;
     };

@@ -21,7 +21,7 @@ use std::alloc::{AllocError, Global};
 use std::sync::Wait;
 
 /// As many bytes of the client wait at most, and as many are read at once at most.
-pub(crate) const ROOM: usize = 32_768;
+pub const ROOM: usize = 32_768;
 
 /// A link is read so often at most before the next wait.
 pub(crate) const READS: u32 = 64;
@@ -33,13 +33,14 @@ pub(crate) struct Reads {
     pub(crate) server: u32,
 }
 
-/// Serves an open connection until nothing moves.
+/// Serves an open connection until nothing moves. What links give is read into the buffer.
 pub(crate) fn work<R: Wait, W: World, S: Shared>(
     conn: &mut Conn,
     rt: &R,
     alloc: Global,
     world: &mut W,
     shared: &mut S,
+    buffer: &mut [u8; ROOM],
 ) -> Result<(), Memory>
     requires linked { Linked (W.seen world.old) conn.old }
     requires below { IsBelow (S.desk shared.old).generations conn.old.current.number }
@@ -48,7 +49,6 @@ pub(crate) fn work<R: Wait, W: World, S: Shared>(
         (moment (W.seen world.new) (W.lately world.new) (S.desk shared.new) conn.new) }
     ensures calm { OnOk result (Calm (W.lately world.new) conn.new) }
 {
-    let mut buffer = [0; ROOM];
     let mut reads = Reads {
         client: 0,
         server: 0,
@@ -57,7 +57,7 @@ pub(crate) fn work<R: Wait, W: World, S: Shared>(
         if !conn.is_open() {
             return Ok(());
         }
-        if !round(conn, rt, alloc, world, shared, &mut buffer, &mut reads)? {
+        if !round(conn, rt, alloc, world, shared, buffer, &mut reads)? {
             return Ok(());
         }
     }

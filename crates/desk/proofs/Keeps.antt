@@ -1,5 +1,5 @@
 -- What is kept of one number among the looks and picks of all.
-use Rattle.std.proofs.Common.{◌≡◌, ◌≢◌, ℕ, ◌+◌, ◌==◌, ◌||◌, drop, inl, inr, List, [], ◌∷◌, ◌++◌, Option, Some, None, refl, sym, ap, ◌∙◌, subst, Bool, true, false, if◌then◌else◌, append-nil, arith}
+use Rattle.std.proofs.Common.{◌≡◌, ◌≢◌, ℕ, ◌+◌, ◌==◌, ◌||◌, ◌&&◌, inl, inr, List, [], ◌∷◌, ◌++◌, Option, Some, None, refl, sym, ap, ◌∙◌, subst, Bool, true, false, if◌then◌else◌, append-nil, arith}
 use Rattle.std.specs.Prelude.{not, filter}
 use Rattle.std.specs.List.{flat_map, list_any}
 use Rattle.std.proofs.lemmas.Bool.Decides.{eqb_tells}
@@ -157,10 +157,28 @@ pub last_end_append : (node count : ℕ) (xs ys : List NodePick) → last_end no
 last_end_append node count [] ys = refl
 last_end_append node count (x ∷ xs) ys = last_end_append node (if x.node == node then x.pick.to else count) xs ys
 
-pub count_step : (node number count i : ℕ) (xs : List Picked) (x : Picked) → drop i xs ≡ x ∷ drop (i + 1) xs
-    → last_end node (last_end node count (pick_by number x)) (flat_map (pick_by number) (drop (i + 1) xs)) ≡ last_end node count (flat_map (pick_by number) (drop i xs))
-count_step node number count i xs x e =
-    sym (ap (λ (ys : List Picked). last_end node count (flat_map (pick_by number) ys)) e ∙ last_end_append node count (pick_by number x) (flat_map (pick_by number) (drop (i + 1) xs)))
+-- where the last pick ends, by the one that stands last
+pub last_end_last : (node number : ℕ) (xs ys : List Picked) (x : Picked) → ys ≡ xs ++ x ∷ []
+    → last_end node 0 (flat_map (pick_by number) ys) ≡ (if (x.number == number) && (x.pick.node == node) then x.pick.pick.to else last_end node 0 (flat_map (pick_by number) xs))
+last_end_last node number xs ys x is =
+    ap (λ (zs : List Picked). last_end node 0 (flat_map (pick_by number) zs)) is
+    ∙ ap (last_end node 0) (flat_map-append (pick_by number) xs (x ∷ []))
+    ∙ last_end_append node 0 (flat_map (pick_by number) xs) (flat_map (pick_by number) (x ∷ []))
+    ∙ by (x.number == number) node (last_end node 0 (flat_map (pick_by number) xs)) x.pick
+  where
+    by : (b : Bool) (node count : ℕ) (p : NodePick) → last_end node count (only_if b (p ∷ []) ++ []) ≡ (if b && (p.node == node) then p.pick.to else count)
+    by true node count p = refl
+    by false node count p = refl
+
+pub last_end_here : (node number : ℕ) (xs ys : List Picked) (x : Picked) → ys ≡ xs ++ x ∷ [] → ((x.number == number) && (x.pick.node == node)) ≡ true
+    → last_end node 0 (flat_map (pick_by number) ys) ≡ x.pick.pick.to
+last_end_here node number xs ys x is at =
+    last_end_last node number xs ys x is ∙ ap (λ (b : Bool). if b then x.pick.pick.to else last_end node 0 (flat_map (pick_by number) xs)) at
+
+pub last_end_before : (node number : ℕ) (xs ys : List Picked) (x : Picked) → ys ≡ xs ++ x ∷ [] → ((x.number == number) && (x.pick.node == node)) ≡ false
+    → last_end node 0 (flat_map (pick_by number) ys) ≡ last_end node 0 (flat_map (pick_by number) xs)
+last_end_before node number xs ys x is at =
+    last_end_last node number xs ys x is ∙ ap (λ (b : Bool). if b then x.pick.pick.to else last_end node 0 (flat_map (pick_by number) xs)) at
 
 -- a pick at the node, after the last one there
 draw_more : (looks : List Look) (picks picks' : List NodePick) (node count mask : ℕ) (pick : Pick)

@@ -1,5 +1,5 @@
 // What was looked at and drawn under each number that is attended.
-ghost use Rattle.std.specs.Prelude.{◌≡◌, ◌≢◌, ◌<◌, ◌≤◌, ℕ, Some, None, OnOk, OnErr, not, ◌==◌, filter, vec_len, vec_capacity};
+ghost use Rattle.std.specs.Prelude.{◌≡◌, ◌≢◌, ◌<◌, ◌≤◌, ℕ, Some, None, OnOk, OnErr, not, ◌==◌, ◌&&◌, filter, vec_len, vec_capacity};
 ghost use Rattle.std.specs.List.{flat_map, list_any};
 ghost use Rattle.desk.specs.Desks.{IsHeld, held, with_look, DrawDid, RoomLeft};
 ghost use Rattle.desk.specs.Kept.{seats_of, room_of, pick_by, last_end};
@@ -126,23 +126,23 @@ fn forget_picks(picks: &mut Vec<Picked>, number: u64)
     picks.retain(|held| held.number != number);
 }
 
-// Where the last pick of this number at the node ends.
+// Where the last pick of this number at the node ends. It looks from the back, where that pick mostly stands, so that a
+// draw takes no longer the more were made.
 fn count_at(picks: &[Picked], number: u64, node: u32) -> u64
     ensures { result ≡ last_end node 0 (flat_map (pick_by number) picks.now) }
 {
-    let mut count = 0;
-    for held in picks {
-        count = count_with(count, held, number, node);
+    let mut rest = picks;
+    'picks: while let Some((last, before)) = rest.split_last() {
+        if is_at(last, number, node) {
+            return last.pick.pick.to;
+        }
+        rest = before;
     }
-    count
+    0
 }
 
-fn count_with(count: u64, held: &Picked, number: u64, node: u32) -> u64
-    ensures { result ≡ last_end node count (pick_by number held.now) }
+fn is_at(held: &Picked, number: u64, node: u32) -> bool
+    ensures { result ≡ ((held.now.number == number) && (held.now.pick.node == node)) }
 {
-    if held.number == number && held.pick.node == node {
-        held.pick.pick.to
-    } else {
-        count
-    }
+    held.number == number && held.pick.node == node
 }

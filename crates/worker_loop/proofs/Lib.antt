@@ -3,3 +3,5 @@ pub mod Frames
 pub mod Servings
 pub mod Comings
 pub mod Accountings
+pub mod Places
+pub mod Meetings

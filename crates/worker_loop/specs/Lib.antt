@@ -2,3 +2,4 @@ pub mod Owned
 pub mod Runs
 pub mod Settled
 pub mod Accounts
+pub mod Met

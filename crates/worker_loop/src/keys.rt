@@ -3,7 +3,9 @@ ghost use Rattle.std.specs.Prelude.{◌≡◌, ◌≢◌, ◌≤◌, ℕ, List, 
 ghost use Rattle.link_world.specs.Seen.{Seen};
 ghost use Rattle.conversation.specs.Plans.{Plan};
 ghost use Rattle.desk.specs.Desks.{Grew};
-ghost use Rattle.slab.specs.Slab.{get, slab_len};
+ghost use Rattle.slab.specs.Slab.{get, slab_len, Slab};
+ghost use Rattle.conn_machine.specs.declared.conn.Conn.{Conn};
+ghost use Rattle.worker_loop.specs.Met.{Meets};
 ghost use Rattle.worker_loop.specs.Runs.{Attends, Attended, Runs, Stopping, IsStopping, Unasked};
 ghost use Rattle.desk.specs.Desks.{Desk};
 ghost use Rattle.worker_loop.specs.Accounts.{Accounts};
@@ -39,21 +41,33 @@ impl Worker {
         ensures turn { SameTurn (W.lately world.old) (W.lately world.new) }
         ensures accounts { (base : Seen) (from : Desk) → OnOk result (Accounts base (W.seen world.old) from (S.desk shared.old) self.old.conns
             → Accounts base (W.seen world.new) from (S.desk shared.new) self.new.conns) }
+        ensures met { (first : Slab Conn) (base : Seen) → OnOk result (Meets first base (W.seen world.old) self.old.conns
+            → Meets first base (W.seen world.new) self.new.conns) }
         ensures settled { OnOk result ((k : ℕ) → (k ≢ key → SettledUnder (W.lately world.old) self.old.conns k)
             → SettledUnder (W.lately world.new) self.new.conns k) }
     {
-        // A vacant key is passed over at once: most are.
-        if !self.conns.contains(key) {
-            return Ok(());
-        }
-        let Some(mut conn) = self.conns.try_remove(key) else {
+        // It stays in its place: it is too large to be moved at each turn.
+        let Some(conn) = self.conns.get_mut(key) else {
             return Ok(());
         };
-        serve(&mut conn, rt, alloc, world, shared)?;
-        if !conn.is_finished() {
-            self.conns.insert_reserved(conn);
+        if let Err(lost) = serve(conn, rt, alloc, world, shared, &mut *self.buffer) {
+            self.forget(key);
+            return Err(lost);
+        }
+        if conn.is_finished() {
+            self.forget(key);
         }
         Ok(())
+    }
+
+    // Lets the connection under a key go.
+    fn forget(&mut self, key: usize)
+        ensures gone { get self.new.conns key ≡ None }
+        ensures others { (k : ℕ) → k ≢ key → get self.new.conns k ≡ get self.old.conns k }
+        ensures links { self.new.links ≡ self.old.links }
+        ensures fewer { slab_len self.new.conns ≤ slab_len self.old.conns }
+    {
+        let _ = self.conns.try_remove(key);
     }
 
     // Ends the connection under a key, if there is one, where the worker stops.
@@ -67,6 +81,8 @@ impl Worker {
         ensures others { (k : ℕ) → k ≢ key → get self.new.conns k ≡ get self.old.conns k }
         ensures accounts { (base : Seen) (from to : Desk) → OnOk result (Accounts base (W.seen world.old) from to self.old.conns
             → Accounts base (W.seen world.new) from to self.new.conns) }
+        ensures met { (first : Slab Conn) (base : Seen) → OnOk result (Meets first base (W.seen world.old) self.old.conns
+            → Meets first base (W.seen world.new) self.new.conns) }
     {
         let Some(mut conn) = self.conns.try_remove(key) else {
             return Ok(());
@@ -87,6 +103,8 @@ impl Worker {
         ensures ended { (k : ℕ) → get self.new.conns k ≡ None }
         ensures accounts { (base : Seen) (from to : Desk) → result ≡ true → Accounts base (W.seen world.old) from to self.old.conns
             → Accounts base (W.seen world.new) from to self.new.conns }
+        ensures met { (first : Slab Conn) (base : Seen) → result ≡ true → Meets first base (W.seen world.old) self.old.conns
+            → Meets first base (W.seen world.new) self.new.conns }
     {
         let mut all = true;
         let end = self.conns.capacity();

@@ -5,6 +5,7 @@ ghost use Rattle.conn_machine.specs.declared.conn.Conn.{Conn};
 ghost use Rattle.worker_loop.specs.Settled.{EndsOnly, StoppedAfter};
 ghost use Rattle.desk.specs.Desks.{Desk, Grew};
 ghost use Rattle.worker_loop.specs.Accounts.{Accounts};
+ghost use Rattle.worker_loop.specs.Met.{Meets, AllEnded};
 ghost use Rattle.link_world.specs.Log.{Event};
 ghost use Rattle.link_world.specs.Seen.{Seen, Rose};
 ghost use Rattle.conversation.specs.Plans.{Plan};
@@ -58,6 +59,9 @@ pub fn run_worker<R: Wait, W: World, S: Shared>(
     ensures accounts { (base : Seen) (from : Desk) → result ≢ WorkerEnd.Memory
         → Accounts base (W.seen world.old) from (S.desk shared.old) worker.old.conns
         → Accounts base (W.seen world.new) from (S.desk shared.new) worker.new.conns }
+
+    // No client is forgotten: the end of each that was there at the start or came in this run was noted in it.
+    ensures met { result ≢ WorkerEnd.Memory → AllEnded worker.old.conns (W.seen world.old) (W.seen world.new) }
     ensures stopped { result ≡ WorkerEnd.Stopped → Rose (W.seen world.old).stops (W.seen world.new).stops }
 
     // All was settled when the stop was asked for.
@@ -92,6 +96,8 @@ fn finish<W: World>(alloc: Global, worker: &mut Worker, world: &mut W, end: Work
     ensures ended { (k : ℕ) → get worker.new.conns k ≡ None }
     ensures accounts { (base : Seen) (from to : Desk) → result ≢ WorkerEnd.Memory → Accounts base (W.seen world.old) from to worker.old.conns
         → Accounts base (W.seen world.new) from to worker.new.conns }
+    ensures met { (first : Slab Conn) (base : Seen) → result ≢ WorkerEnd.Memory → Meets first base (W.seen world.old) worker.old.conns
+        → Meets first base (W.seen world.new) worker.new.conns }
 {
     if worker.stop_all(alloc, world) {
         end

@@ -24,6 +24,9 @@ const FORWARDED: &str =
 
 const REPLY: &str = "HTTP/1.1 200 OK\r\nContent-Length: 2\r\n\r\nok";
 
+const REPLIES: &str =
+    "HTTP/1.1 200 OK\r\nContent-Length: 2\r\n\r\nokHTTP/1.1 200 OK\r\nContent-Length: 2\r\n\r\nok";
+
 fn bytes(alloc: Global, text: &str) -> Result<Bytes, Memory> {
     Bytes::from_slice(alloc, text.as_bytes())
 }
@@ -55,16 +58,6 @@ fn one_request(alloc: Global) -> Result<Vec<Given>, Fail> {
     Ok(steps)
 }
 
-// Runs a worker over the script of one request.
-fn run<R: Abort + Wait>(rt: &R, alloc: Global, failing: Vec<u64>) -> Result<MemoryWorld, Fail> {
-    let mut world = MemoryWorld::new(alloc, one_request(alloc)?, failing)?;
-    let mut shared = OneDesk::new(alloc, numbered(alloc, 1)?)?;
-    let mut worker = Worker::new(alloc, 2)?;
-    let end = run_worker(rt, alloc, &mut worker, &mut world, &mut shared);
-    assert!(rt; end == WorkerEnd::Stopped);
-    Ok(world)
-}
-
 fn expect_text(rt: &impl Abort, text: &[u8], wanted: &str) {
     assert_eq!(rt; text, wanted.as_bytes());
 }
@@ -79,35 +72,22 @@ fn expect_notes(
     Ok(())
 }
 
-// A request is served from end to end.
-fn served<R: Abort + Wait>(rt: &R, alloc: Global) -> Result<(), Fail> {
-    let world = run(rt, alloc, Vec::new(alloc))?;
-    expect_text(rt, &world.taken(alloc, 0)?, REPLY);
-    expect_text(rt, &world.taken(alloc, 1)?, FORWARDED);
-    expect_notes(
-        rt,
-        alloc,
-        &world,
-        "note 0 1 gen 1 router 0 status 200 Passed looks 0:1 picks 0:0-1:0 turns - backs 1\nnote 0 end Client\n",
-    )
-}
-
 // The fifth counted call, the first write to the server, fails.
-fn failed<R: Abort + Wait>(rt: &R, alloc: Global) -> Result<(), Fail> {
-    let world = run(rt, alloc, Vec::from_slice(alloc, &[5])?)?;
+#[test]
+fn failed(rt: HostRuntime) -> Result<(), Fail> {
+    let alloc = rt.alloc();
+    let failing = Vec::from_slice(alloc, &[5])?;
+    let mut world = MemoryWorld::new(alloc, one_request(alloc)?, failing)?;
+    let mut shared = OneDesk::new(alloc, numbered(alloc, 1)?)?;
+    let mut worker = Worker::new(alloc, 2)?;
+    let end = run_worker(&rt, alloc, &mut worker, &mut world, &mut shared);
+    assert!(rt; end == WorkerEnd::Stopped);
     expect_notes(
-        rt,
+        &rt,
         alloc,
         &world,
         "note 0 1 gen 1 router 0 status 502 BackFailed 1 looks 0:1 picks 0:0-1:0 turns - backs 1\nnote 0 end Client\n",
     )
-}
-
-#[test]
-fn runs(rt: HostRuntime) -> Result<(), Fail> {
-    let alloc = rt.alloc();
-    served(&rt, alloc)?;
-    failed(&rt, alloc)
 }
 
 // A client that asks, asks again after a while, and ends.
@@ -173,6 +153,9 @@ fn publications(rt: HostRuntime) -> Result<(), Fail> {
     let mut shared = OneDesk::new(alloc, numbered(alloc, 1)?)?;
     let mut worker = Worker::new(alloc, 2)?;
     two_turns(&rt, alloc, &mut worker, &mut world, &mut shared)?;
+    expect_text(&rt, &world.taken(alloc, 1)?, FORWARDED);
+    expect_text(&rt, &world.taken(alloc, 2)?, FORWARDED);
+    expect_text(&rt, &world.taken(alloc, 0)?, REPLIES);
     expect_notes(
         &rt,
         alloc,

@@ -1,6 +1,8 @@
 //! A worker's turn.
-ghost use Rattle.std.specs.Prelude.{◌≡◌, ◌≢◌, ◌≤◌, ◌+◌, ℕ, List, OnOk, OnErr, IfOk, IfSome, IfNone, true, false};
-ghost use Rattle.slab.specs.Slab.{slab_len};
+ghost use Rattle.std.specs.Prelude.{◌≡◌, ◌≢◌, ◌≤◌, ◌+◌, ℕ, List, OnOk, OnErr, IfOk, IfSome, IfNone, true, false, is_some, if◌then◌else◌};
+ghost use Rattle.slab.specs.Slab.{get, slab_len, Slab as Slots};
+ghost use Rattle.conn_machine.specs.declared.conn.Conn.{Conn as Connection};
+ghost use Rattle.worker_loop.specs.Met.{Meets};
 ghost use Rattle.link_world.specs.Seen.{Seen, CloseDid};
 ghost use Rattle.link_world.specs.Lately.{OnlyAt};
 ghost use Rattle.conversation.specs.Plans.{Plan};
@@ -10,6 +12,7 @@ ghost use Rattle.worker_loop.specs.Accounts.{Accounts};
 ghost use Rattle.worker_loop.specs.Settled.{SettledUnder, AllSettled, TurnDone, SameTurn};
 
 use conn_machine::Conn;
+use conn_service::ROOM;
 use desk::Shared;
 use link_world::{Arrival, World};
 use px_base::Memory;
@@ -26,6 +29,8 @@ pub struct Worker {
     pub conns: Slab<Conn>,
     /// The most client links at a time.
     pub links: usize,
+    /// What a link gives is read into it.
+    pub(crate) buffer: Box<[u8; ROOM]>,
 }
 
 impl Worker {
@@ -40,9 +45,13 @@ impl Worker {
     {
         let mut conns = Slab::new(alloc);
         conns.reserve(links as usize)?;
+        let Ok(buffer) = Box::new(alloc, [0; ROOM]) else {
+            return Err(AllocError);
+        };
         Ok(Worker {
             conns,
             links: links as usize,
+            buffer,
         })
     }
 
@@ -70,6 +79,10 @@ impl Worker {
         // Each pin of the desk since the worker first used it is accounted for.
         ensures accounts { (base : Seen) (from : Desk) → OnOk result (Accounts base (W.seen world.old) from (S.desk shared.old) self.old.conns
             → Accounts base (W.seen world.new) from (S.desk shared.new) self.new.conns) }
+
+        // No client is forgotten.
+        ensures met { (first : Slots Connection) (base : Seen) → OnOk result (Meets first base (W.seen world.old) self.old.conns
+            → Meets first base (W.seen world.new) self.new.conns) }
         ensures done { OnOk result (TurnDone (W.lately world.new) self.new.conns self.new.links) }
     {
         let _ = world.now();
@@ -85,7 +98,7 @@ impl Worker {
         unreachable!()
     }
 
-    // Serves each connection.
+    // Serves each connection. It looks at no key past the last that has one.
     fn serve_all<R: Wait, W: World, S: Shared>(
         &mut self,
         rt: &R,
@@ -103,10 +116,17 @@ impl Worker {
         ensures turn { SameTurn (W.lately world.old) (W.lately world.new) }
         ensures accounts { (base : Seen) (from : Desk) → OnOk result (Accounts base (W.seen world.old) from (S.desk shared.old) self.old.conns
             → Accounts base (W.seen world.new) from (S.desk shared.new) self.new.conns) }
+        ensures met { (first : Slots Connection) (base : Seen) → OnOk result (Meets first base (W.seen world.old) self.old.conns
+            → Meets first base (W.seen world.new) self.new.conns) }
         ensures settled { OnOk result (AllSettled (W.lately world.new) self.new.conns) }
     {
+        let mut left = self.conns.len();
         let end = self.conns.capacity();
         for key in 0..end {
+            if left == 0 {
+                return Ok(());
+            }
+            left -= held_at(&self.conns, key);
             self.serve_key(rt, alloc, key, world, shared)?;
         }
         Ok(())
@@ -131,6 +151,8 @@ impl Worker {
         ensures none { IfOk result (λ came. came ≡ false → (W.lately world.new).no_more ≡ true) }
         ensures accounts { (base : Seen) (from : Desk) → OnOk result (Accounts base (W.seen world.old) from (S.desk shared.old) self.old.conns
             → Accounts base (W.seen world.new) from (S.desk shared.new) self.new.conns) }
+        ensures met { (first : Slots Connection) (base : Seen) → OnOk result (Meets first base (W.seen world.old) self.old.conns
+            → Meets first base (W.seen world.new) self.new.conns) }
         ensures settled { OnOk result (AllSettled (W.lately world.old) self.old.conns → AllSettled (W.lately world.new) self.new.conns) }
     {
         let Some(key) = self.accept(alloc, world)? else {
@@ -147,6 +169,8 @@ impl Worker {
             → Runs base (W.seen world.new) g self.new.conns }
         ensures accounts { (base : Seen) (from f : Desk) → OnOk result (Accounts base (W.seen world.old) from f self.old.conns
             → Accounts base (W.seen world.new) from f self.new.conns) }
+        ensures met { (first : Slots Connection) (base : Seen) → OnOk result (Meets first base (W.seen world.old) self.old.conns
+            → Meets first base (W.seen world.new) self.new.conns) }
         ensures stops { (W.seen world.new).stops ≡ (W.seen world.old).stops }
         ensures links { self.new.links ≡ self.old.links }
         ensures more { slab_len self.new.conns ≤ slab_len self.old.conns + 1 }
@@ -163,6 +187,16 @@ impl Worker {
         let conn = begin(alloc, world, &client)?;
         let key = self.conns.insert_reserved(conn);
         Ok(Some(key))
+    }
+}
+
+// How many connections the key has: 1 or 0.
+fn held_at(conns: &Slab<Conn>, key: usize) -> usize
+    ensures { result ≡ (if is_some (get conns.now key) then 1 else 0) }
+{
+    match conns.get(key) {
+        Some(_) => 1,
+        None => 0,
     }
 }
 

@@ -9,28 +9,28 @@ pub read-requires-clause-given : goal.read-requires-clause-given
 read-requires-clause-given g c = c.requires.linked.client c.requires.open
 
 pub returns-in_err-bytes-in-Got-clause-went : goal.returns-in_err-bytes-in-Got-clause-went
-returns-in_err-bytes-in-Got-clause-went g c = λ desk. went_event c.args.conn.now.client.link (gave _) c.requires.linked (of_client refl) (λ ne. refl) c.in-Got.ensures.seen.2 c.in-Got.ensures.lately.only
+returns-in_err-bytes-in-Got-clause-went g c = λ desk. went_event c.args.conn.now.client.link (gave _) c.requires.linked (of_client refl) (λ ne. refl) refl c.in-Got.ensures.seen.2 c.in-Got.ensures.lately.only
     (keeps_open c.requires.open c.bytes.ensures.client c.bytes.ensures.server c.bytes.ensures.number) c.bytes.ensures.reached
 
 pub returns-in_err-bytes-in-Got-clause-counted : goal.returns-in_err-bytes-in-Got-clause-counted
 returns-in_err-bytes-in-Got-clause-counted g c = λ r below h. counted_client c.requires.linked c.in-Got.ensures.lately c.bytes.ensures.client c.bytes.ensures.server below h
 
 pub returns-in_ok-bytes-in-Got-clause-went : goal.returns-in_ok-bytes-in-Got-clause-went
-returns-in_ok-bytes-in-Got-clause-went g c = λ desk. went_event c.args.conn.now.client.link (gave _) c.requires.linked (of_client refl) (λ ne. refl) c.in-Got.ensures.seen.2 c.in-Got.ensures.lately.only
+returns-in_ok-bytes-in-Got-clause-went g c = λ desk. went_event c.args.conn.now.client.link (gave _) c.requires.linked (of_client refl) (λ ne. refl) refl c.in-Got.ensures.seen.2 c.in-Got.ensures.lately.only
     (keeps_open c.requires.open c.bytes.ensures.client c.bytes.ensures.server c.bytes.ensures.number) c.bytes.ensures.reached
 
 pub returns-in_ok-bytes-in-Got-clause-counted : goal.returns-in_ok-bytes-in-Got-clause-counted
 returns-in_ok-bytes-in-Got-clause-counted g c = λ r below h. counted_client c.requires.linked c.in-Got.ensures.lately c.bytes.ensures.client c.bytes.ensures.server below h
 
 pub returns-in_err-end-in-End-clause-went : goal.returns-in_err-end-in-End-clause-went
-returns-in_err-end-in-End-clause-went g c = λ desk. went_event c.args.conn.now.client.link gave_end c.requires.linked (of_client refl) (λ ne. refl) c.in-End.ensures.seen c.in-End.ensures.lately.only
+returns-in_err-end-in-End-clause-went g c = λ desk. went_event c.args.conn.now.client.link gave_end c.requires.linked (of_client refl) (λ ne. refl) refl c.in-End.ensures.seen c.in-End.ensures.lately.only
     (keeps_open c.requires.open c.end.ensures.client c.end.ensures.server c.end.ensures.number) c.end.ensures.reached
 
 pub returns-in_err-end-in-End-clause-counted : goal.returns-in_err-end-in-End-clause-counted
 returns-in_err-end-in-End-clause-counted g c = λ r below h. counted_client c.requires.linked c.in-End.ensures.lately c.end.ensures.client c.end.ensures.server below h
 
 pub returns-in_ok-end-in-End-clause-went : goal.returns-in_ok-end-in-End-clause-went
-returns-in_ok-end-in-End-clause-went g c = λ desk. went_event c.args.conn.now.client.link gave_end c.requires.linked (of_client refl) (λ ne. refl) c.in-End.ensures.seen c.in-End.ensures.lately.only
+returns-in_ok-end-in-End-clause-went g c = λ desk. went_event c.args.conn.now.client.link gave_end c.requires.linked (of_client refl) (λ ne. refl) refl c.in-End.ensures.seen c.in-End.ensures.lately.only
     (keeps_open c.requires.open c.end.ensures.client c.end.ensures.server c.end.ensures.number) c.end.ensures.reached
 
 pub returns-in_ok-end-in-End-clause-counted : goal.returns-in_ok-end-in-End-clause-counted

@@ -15,7 +15,7 @@ took-requires-clause-some g c = subst (λ (l : List ℕ). c.in-Took.n ≤ length
 
 pub returns-in_err-took-in-Took-clause-went : goal.returns-in_err-took-in-Took-clause-went
 returns-in_err-took-in-Took-clause-went g c = λ desk. let w = rw c.pending.ensures at c.in-Took.ensures.seen.2 in
-    went_event c.args.conn.now.client.link (took _) c.requires.linked (of_client refl) (λ ne. refl) w c.in-Took.ensures.lately.only
+    went_event c.args.conn.now.client.link (took _) c.requires.linked (of_client refl) (λ ne. refl) refl w c.in-Took.ensures.lately.only
     (keeps_open c.requires.open c.took.ensures.client c.took.ensures.server c.took.ensures.number) c.took.ensures.reached
 
 pub returns-in_err-took-in-Took-clause-counted : goal.returns-in_err-took-in-Took-clause-counted
@@ -23,7 +23,7 @@ returns-in_err-took-in-Took-clause-counted g c = λ r h. counted_write c.in-Took
 
 pub returns-in_ok-took-in-Took-clause-went : goal.returns-in_ok-took-in-Took-clause-went
 returns-in_ok-took-in-Took-clause-went g c = λ desk. let w = rw c.pending.ensures at c.in-Took.ensures.seen.2 in
-    went_event c.args.conn.now.client.link (took _) c.requires.linked (of_client refl) (λ ne. refl) w c.in-Took.ensures.lately.only
+    went_event c.args.conn.now.client.link (took _) c.requires.linked (of_client refl) (λ ne. refl) refl w c.in-Took.ensures.lately.only
     (keeps_open c.requires.open c.took.ensures.client c.took.ensures.server c.took.ensures.number) c.took.ensures.reached
 
 pub returns-in_ok-took-in-Took-clause-counted : goal.returns-in_ok-took-in-Took-clause-counted

@@ -51,7 +51,7 @@ pub returns-in-Took-clause-went : goal.returns-in-Took-clause-went
 returns-in-Took-clause-went g c = λ desk. let w = rw c.back_pending-2.ensures at c.in-Took.ensures.seen.2 in
     let s = (serving_still c.args.conn.now c.reserve.new.self c.reserve.ensures.phase c.reserve.ensures.stage c.reserve.ensures.current c.in-Some.ensures) in
     went_then (went_none c.requires (keeps_same c.reserve.ensures.client c.reserve.ensures.current c.reserve.ensures.phase c.reserve.ensures.stage) c.reserve.ensures.reached)
-    (went_server c.in-Some.link (took _) (linked_still c.requires (keeps_same c.reserve.ensures.client c.reserve.ensures.current c.reserve.ensures.phase c.reserve.ensures.stage)) s refl w c.in-Took.ensures.lately.only
+    (went_server c.in-Some.link (took _) (linked_still c.requires (keeps_same c.reserve.ensures.client c.reserve.ensures.current c.reserve.ensures.phase c.reserve.ensures.stage)) s refl refl w c.in-Took.ensures.lately.only
     (keeps_open s.0.phase c.back_took.ensures.client c.back_took.ensures.server c.back_took.ensures.number) c.back_took.ensures.reached)
 
 pub returns-in-Took-clause-server : goal.returns-in-Took-clause-server

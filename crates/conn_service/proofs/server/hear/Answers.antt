@@ -59,7 +59,7 @@ back_bytes-requires-clause-room g c = c.in_ok-reserve.ensures.room.notes
 pub returns-in_err-back_bytes-in-Got-clause-went : goal.returns-in_err-back_bytes-in-Got-clause-went
 returns-in_err-back_bytes-in-Got-clause-went g c = λ desk. let s = (serving_still c.args.conn.now c.reserve.new.self c.reserve.ensures.phase c.reserve.ensures.stage c.reserve.ensures.current c.in-Some.ensures) in
     went_then (went_none c.requires.linked (keeps_same c.reserve.ensures.client c.reserve.ensures.current c.reserve.ensures.phase c.reserve.ensures.stage) c.reserve.ensures.reached)
-    (went_server c.in-Some.link (gave _) (linked_still c.requires.linked (keeps_same c.reserve.ensures.client c.reserve.ensures.current c.reserve.ensures.phase c.reserve.ensures.stage)) s refl c.in-Got.ensures.seen.2 c.in-Got.ensures.lately.only
+    (went_server c.in-Some.link (gave _) (linked_still c.requires.linked (keeps_same c.reserve.ensures.client c.reserve.ensures.current c.reserve.ensures.phase c.reserve.ensures.stage)) s refl refl c.in-Got.ensures.seen.2 c.in-Got.ensures.lately.only
     (keeps_open s.0.phase c.back_bytes.ensures.client c.back_bytes.ensures.server c.back_bytes.ensures.number) c.back_bytes.ensures.reached)
 
 pub returns-in_err-back_bytes-in-Got-clause-server : goal.returns-in_err-back_bytes-in-Got-clause-server
@@ -71,7 +71,7 @@ returns-in_err-back_bytes-in-Got-clause-counted g c = let s = (serving_still c.a
 pub returns-in_ok-back_bytes-in-Got-clause-went : goal.returns-in_ok-back_bytes-in-Got-clause-went
 returns-in_ok-back_bytes-in-Got-clause-went g c = λ desk. let s = (serving_still c.args.conn.now c.reserve.new.self c.reserve.ensures.phase c.reserve.ensures.stage c.reserve.ensures.current c.in-Some.ensures) in
     went_then (went_none c.requires.linked (keeps_same c.reserve.ensures.client c.reserve.ensures.current c.reserve.ensures.phase c.reserve.ensures.stage) c.reserve.ensures.reached)
-    (went_server c.in-Some.link (gave _) (linked_still c.requires.linked (keeps_same c.reserve.ensures.client c.reserve.ensures.current c.reserve.ensures.phase c.reserve.ensures.stage)) s refl c.in-Got.ensures.seen.2 c.in-Got.ensures.lately.only
+    (went_server c.in-Some.link (gave _) (linked_still c.requires.linked (keeps_same c.reserve.ensures.client c.reserve.ensures.current c.reserve.ensures.phase c.reserve.ensures.stage)) s refl refl c.in-Got.ensures.seen.2 c.in-Got.ensures.lately.only
     (keeps_open s.0.phase c.back_bytes.ensures.client c.back_bytes.ensures.server c.back_bytes.ensures.number) c.back_bytes.ensures.reached)
 
 pub returns-in_ok-back_bytes-in-Got-clause-server : goal.returns-in_ok-back_bytes-in-Got-clause-server
@@ -89,7 +89,7 @@ back_end-requires-clause-room g c = c.in_ok-reserve.ensures.room.notes
 pub returns-in_err-back_end-in-End-clause-went : goal.returns-in_err-back_end-in-End-clause-went
 returns-in_err-back_end-in-End-clause-went g c = λ desk. let s = (serving_still c.args.conn.now c.reserve.new.self c.reserve.ensures.phase c.reserve.ensures.stage c.reserve.ensures.current c.in-Some.ensures) in
     went_then (went_none c.requires.linked (keeps_same c.reserve.ensures.client c.reserve.ensures.current c.reserve.ensures.phase c.reserve.ensures.stage) c.reserve.ensures.reached)
-    (went_server c.in-Some.link gave_end (linked_still c.requires.linked (keeps_same c.reserve.ensures.client c.reserve.ensures.current c.reserve.ensures.phase c.reserve.ensures.stage)) s refl c.in-End.ensures.seen c.in-End.ensures.lately.only
+    (went_server c.in-Some.link gave_end (linked_still c.requires.linked (keeps_same c.reserve.ensures.client c.reserve.ensures.current c.reserve.ensures.phase c.reserve.ensures.stage)) s refl refl c.in-End.ensures.seen c.in-End.ensures.lately.only
     (keeps_open s.0.phase c.back_end.ensures.client c.back_end.ensures.server c.back_end.ensures.number) c.back_end.ensures.reached)
 
 pub returns-in_err-back_end-in-End-clause-server : goal.returns-in_err-back_end-in-End-clause-server
@@ -101,7 +101,7 @@ returns-in_err-back_end-in-End-clause-counted g c = let s = (serving_still c.arg
 pub returns-in_ok-back_end-in-End-clause-went : goal.returns-in_ok-back_end-in-End-clause-went
 returns-in_ok-back_end-in-End-clause-went g c = λ desk. let s = (serving_still c.args.conn.now c.reserve.new.self c.reserve.ensures.phase c.reserve.ensures.stage c.reserve.ensures.current c.in-Some.ensures) in
     went_then (went_none c.requires.linked (keeps_same c.reserve.ensures.client c.reserve.ensures.current c.reserve.ensures.phase c.reserve.ensures.stage) c.reserve.ensures.reached)
-    (went_server c.in-Some.link gave_end (linked_still c.requires.linked (keeps_same c.reserve.ensures.client c.reserve.ensures.current c.reserve.ensures.phase c.reserve.ensures.stage)) s refl c.in-End.ensures.seen c.in-End.ensures.lately.only
+    (went_server c.in-Some.link gave_end (linked_still c.requires.linked (keeps_same c.reserve.ensures.client c.reserve.ensures.current c.reserve.ensures.phase c.reserve.ensures.stage)) s refl refl c.in-End.ensures.seen c.in-End.ensures.lately.only
     (keeps_open s.0.phase c.back_end.ensures.client c.back_end.ensures.server c.back_end.ensures.number) c.back_end.ensures.reached)
 
 pub returns-in_ok-back_end-in-End-clause-server : goal.returns-in_ok-back_end-in-End-clause-server

@@ -4,11 +4,12 @@ use Rattle.conn_service.proofs.Lists.{grew_none, grew_twice}
 use Rattle.worker_loop.proofs.Servings.{runs_none, runs_attends, run_served, step_same}
 use Rattle.worker_loop.proofs.Accountings.{accounts_same, accounts_wait, accounts_failed, accounts_stop}
 use Rattle.worker_loop.proofs.Comings.{step_stop, step_wait, step_failed, stop_rose, wait_rose, wait_stops, stopped_after, rose_kept, fault_kept}
+use Rattle.worker_loop.proofs.Meetings.{meets_none, meets_same, meets_wait, meets_failed, meets_stop, all_ended}
 use Rattle.worker_loop.specs.Settled.{TurnDone}
 use Rattle.worker_loop.proofs.rounds.run_worker.Goals as goal
 
 pub loop-init : goal.loop-init
-loop-init g c = (tt, tt, runs_none _ _ _ c.requires, refl, λ base from a. a, refl, grew_none (g.S.Shared.desk c.args.shared.now).generations)
+loop-init g c = (tt, tt, runs_none _ _ _ c.requires, refl, λ base from a. a, refl, grew_none (g.S.Shared.desk c.args.shared.now).generations, meets_none (g.W.World.seen c.args.world.now) c.args.worker.now.conns)
 
 pub turn-requires : goal.turn-requires
 turn-requires g c = runs_attends c.loop.invariant.2
@@ -45,7 +46,7 @@ returns-in-Err-clause-fault g c = λ is.
     fault_kept (g.W.World.seen c.args.world.now) (g.W.World.seen c.stop_asked.new.self) (g.W.World.seen c.wait.new.self) (g.W.World.seen c.finish-in-Err.new.world) r.waits (wait_rose (g.W.World.seen c.stop_asked.new.self) (g.W.World.seen c.wait.new.self) _ c.in-Err.ensures.seen) c.finish-in-Err.ensures.unasked
 
 pub loop-preserved : goal.loop-preserved
-loop-preserved g c = (tt, tt, step_wait c.in_default-wait.ensures.seen (step_same c.if-stop_asked.ensures.seen (c.turn.ensures.runs _ c.loop.invariant.2)), wait_stops (g.W.World.seen c.stop_asked.new.self) (g.W.World.seen c.wait.new.self) c.in_default-wait.ensures.seen ∙ ap (λ (s : Seen). s.stops) c.if-stop_asked.ensures.seen ∙ c.turn.ensures.stops ∙ c.loop.invariant.3, λ base from a. accounts_wait c.in_default-wait.ensures.seen (accounts_same c.if-stop_asked.ensures.seen (c.in-Ok.ensures.accounts base from (c.loop.invariant.4 base from a))), c.turn.ensures.links ∙ c.loop.invariant.5, grew_twice _ _ _ c.loop.invariant.6 c.turn.ensures.grew)
+loop-preserved g c = (tt, tt, step_wait c.in_default-wait.ensures.seen (step_same c.if-stop_asked.ensures.seen (c.turn.ensures.runs _ c.loop.invariant.2)), wait_stops (g.W.World.seen c.stop_asked.new.self) (g.W.World.seen c.wait.new.self) c.in_default-wait.ensures.seen ∙ ap (λ (s : Seen). s.stops) c.if-stop_asked.ensures.seen ∙ c.turn.ensures.stops ∙ c.loop.invariant.3, λ base from a. accounts_wait c.in_default-wait.ensures.seen (accounts_same c.if-stop_asked.ensures.seen (c.in-Ok.ensures.accounts base from (c.loop.invariant.4 base from a))), c.turn.ensures.links ∙ c.loop.invariant.5, grew_twice _ _ _ c.loop.invariant.6 c.turn.ensures.grew, meets_wait c.in_default-wait.ensures.seen (meets_same c.if-stop_asked.ensures.seen (c.in-Ok.ensures.met _ _ c.loop.invariant.7)))
 
 pub returns-then-stop_asked-clause-accounts : goal.returns-then-stop_asked-clause-accounts
 returns-then-stop_asked-clause-accounts g c = λ base from not_memory a.
@@ -54,6 +55,14 @@ returns-then-stop_asked-clause-accounts g c = λ base from not_memory a.
 pub returns-in-Err-clause-accounts : goal.returns-in-Err-clause-accounts
 returns-in-Err-clause-accounts g c = λ base from not_memory a.
     c.finish-in-Err.ensures.accounts base from (g.S.Shared.desk c.turn.new.shared) not_memory (accounts_failed _ c.in-Err.ensures.seen (accounts_same c.if-stop_asked.ensures.seen (c.in-Ok.ensures.accounts base from (c.loop.invariant.4 base from a))))
+
+pub returns-then-stop_asked-clause-met : goal.returns-then-stop_asked-clause-met
+returns-then-stop_asked-clause-met g c = λ not_memory.
+    all_ended c.finish.new.worker.conns c.finish.ensures.ended (c.finish.ensures.met _ _ not_memory (meets_stop c.if-stop_asked.ensures.seen (c.in-Ok.ensures.met _ _ c.loop.invariant.7)))
+
+pub returns-in-Err-clause-met : goal.returns-in-Err-clause-met
+returns-in-Err-clause-met g c = λ not_memory.
+    all_ended c.finish-in-Err.new.worker.conns c.finish-in-Err.ensures.ended (c.finish-in-Err.ensures.met _ _ not_memory (meets_failed _ c.in-Err.ensures.seen (meets_same c.if-stop_asked.ensures.seen (c.in-Ok.ensures.met _ _ c.loop.invariant.7))))
 
 pub returns-then-stop_asked-clause-settled : goal.returns-then-stop_asked-clause-settled
 returns-then-stop_asked-clause-settled g c = λ is. (

@@ -3,6 +3,7 @@ use Rattle.link_world.specs.Seen.{Seen}
 use Rattle.desk.specs.Desks.{Desk, Grew}
 use Rattle.worker_loop.specs.Accounts.{Accounts}
 use Rattle.worker_loop.specs.Runs.{Runs}
+use Rattle.worker_loop.specs.Met.{Meets}
 use Rattle.worker_loop.proofs.rounds.run_worker.Given as goal
 
 abbrev pub invariant-loop : goal.invariant-loop
@@ -13,3 +14,4 @@ invariant-loop g l =
     × ((base : Seen) (from : Desk) → Accounts base (g.W.World.seen l.fn.world) from (g.S.Shared.desk l.fn.shared) l.fn.worker.conns → Accounts base (g.W.World.seen l.world) from (g.S.Shared.desk l.shared) l.worker.conns)
     × (l.worker.links ≡ l.fn.worker.links)
     × Grew (g.S.Shared.desk l.fn.shared).generations (g.S.Shared.desk l.shared).generations
+    × Meets l.fn.worker.conns (g.W.World.seen l.fn.world) (g.W.World.seen l.world) l.worker.conns

@@ -4,6 +4,7 @@ use Rattle.conn_machine.specs.declared.conn.Conn.{Conn}
 use Rattle.worker_loop.proofs.Servings.{step_kept, step_same}
 use Rattle.worker_loop.proofs.Accountings.{accounts_same, accounts_kept, accounts_accept}
 use Rattle.worker_loop.proofs.Comings.{step_accept, step_away, settled_same, links_after, links_equal}
+use Rattle.worker_loop.proofs.Meetings.{meets_same, meets_kept, meets_accept}
 use Rattle.worker_loop.proofs.worker.Worker.accept.Goals as goal
 
 pub returns-in_err-reserve-clause-runs : goal.returns-in_err-reserve-clause-runs
@@ -43,3 +44,14 @@ returns-clause-accounts g c = λ base from f a.
     accounts_same c.in_ok-conn.ensures.same
     (accounts_accept c.in-Some.client c.in_ok-conn.conn c.args.self.now.conns c.insert_reserved-key.new.self c.insert_reserved-key.result c.requires.1.1 did c.in_ok-conn.ensures.began
     (sym (kept c.insert_reserved-key.result) ∙ c.insert_reserved-key.ensures.was_vacant) c.insert_reserved-key.ensures.updates.changed (λ k ne. c.insert_reserved-key.ensures.updates.others k ne ∙ kept k) a)
+
+pub returns-in_default-clause-met : goal.returns-in_default-clause-met
+returns-in_default-clause-met g c = λ first base m. let did = rw c.in_default.is at c.in_ok-client.ensures.seen in meets_same did (meets_kept c.args.self.now.conns c.reserve.new.self (λ k. ap (λ (s : Slab Conn). get s k) c.reserve.ensures.rest_kept) m)
+
+pub returns-clause-met : goal.returns-clause-met
+returns-clause-met g c = λ first base m.
+    let did = rw c.in-Some.is at c.in_ok-client.ensures.seen in
+    let kept : (k : ℕ) → get c.reserve.new.self k ≡ get c.args.self.now.conns k = λ k. ap (λ (s : Slab Conn). get s k) c.reserve.ensures.rest_kept in
+    meets_same c.in_ok-conn.ensures.same
+    (meets_accept c.in-Some.client c.in_ok-conn.conn c.args.self.now.conns c.insert_reserved-key.new.self c.insert_reserved-key.result did c.in_ok-conn.ensures.began.link
+    (sym (kept c.insert_reserved-key.result) ∙ c.insert_reserved-key.ensures.was_vacant) c.insert_reserved-key.ensures.updates.changed (λ k ne. c.insert_reserved-key.ensures.updates.others k ne ∙ kept k) m)

@@ -1,11 +1,12 @@
 use Rattle.std.proofs.Common.{◌∙◌, refl, arith}
 use Rattle.conn_service.proofs.Lists.{grew_none, grew_twice}
-use Rattle.worker_loop.proofs.Servings.{runs_none, runs_attends, past_slots}
+use Rattle.worker_loop.proofs.Servings.{runs_none, runs_attends, past_slots, above_next}
 use Rattle.worker_loop.proofs.Comings.{all_settled}
+use Rattle.worker_loop.proofs.Places.{held_next, none_from}
 use Rattle.worker_loop.proofs.worker.Worker.serve_all.Goals as goal
 
 pub loop-key-init : goal.loop-key-init
-loop-key-init g c = (λ base r. r, refl, record { clocked = refl; no_more = refl }, λ k lt. absurd (omega arith), λ k le. past_slots c.args.self.now.conns.slots k (omega (arith, c.capacity-end.ensures.slots, le)), refl, λ base from a. a, omega arith, grew_none (g.S.Shared.desk c.args.shared.now).generations)
+loop-key-init g c = (λ base r. r, refl, record { clocked = refl; no_more = refl }, λ k lt. absurd (omega arith), λ k le. past_slots c.args.self.now.conns.slots k (omega (arith, c.capacity-end.ensures.slots, le)), refl, λ base from a. a, omega arith, grew_none (g.S.Shared.desk c.args.shared.now).generations, λ k le. refl, c.len-left.ensures, λ first base m. m)
 
 pub serve_key-requires : goal.serve_key-requires
 serve_key-requires g c = runs_attends (c.loop-key.invariant.0 _ (runs_none _ _ _ c.requires))
@@ -26,10 +27,32 @@ loop-key-preserved g c =
       λ base from a. c.in_ok-serve_key.ensures.accounts base from (c.loop-key.invariant.6 base from a),
       omega (arith, c.serve_key.ensures.fewer, c.loop-key.invariant.7),
       grew_twice _ _ _ c.loop-key.invariant.8 c.serve_key.ensures.grew,
+      above_next c.args.self.now.conns c.loop-key.self.conns c.serve_key.new.self.conns c.loop-key.key c.loop-key.invariant.9 c.serve_key.ensures.others,
+      omega (arith, c.loop-key.invariant.10, held_next c.args.self.now.conns c.loop-key.self.conns c.loop-key.key c.held_at-left.result (c.loop-key.invariant.9 c.loop-key.key (omega arith)) c.held_at-left.ensures),
+      λ first base m. c.in_ok-serve_key.ensures.met first base (c.loop-key.invariant.11 first base m),
     )
 
 pub returns-clause-settled : goal.returns-clause-settled
 returns-clause-settled g c = all_settled c.loop-key.self.conns c.capacity-end.result (λ k lt. c.loop-key.invariant.3 k (omega (arith, lt, c.loop-key-test.false))) c.loop-key.invariant.4
+
+pub overflow_sub-left : goal.overflow_sub-left
+overflow_sub-left g c = omega (arith, c.loop-key.invariant.10, held_next c.args.self.now.conns c.loop-key.self.conns c.loop-key.key c.held_at-left.result (c.loop-key.invariant.9 c.loop-key.key (omega arith)) c.held_at-left.ensures)
+
+pub returns-then-left-eq0-clause-settled : goal.returns-then-left-eq0-clause-settled
+returns-then-left-eq0-clause-settled g c = all_settled c.loop-key.self.conns c.loop-key.key c.loop-key.invariant.3
+    (none_from c.args.self.now.conns c.loop-key.self.conns c.loop-key.key (omega (arith, c.loop-key.invariant.10)) c.loop-key.invariant.9)
+
+pub returns-clause-met : goal.returns-clause-met
+returns-clause-met g c = c.loop-key.invariant.11
+
+pub returns-then-left-eq0-clause-met : goal.returns-then-left-eq0-clause-met
+returns-then-left-eq0-clause-met g c = c.loop-key.invariant.11
+
+pub returns-then-left-eq0-clause-accounts : goal.returns-then-left-eq0-clause-accounts
+returns-then-left-eq0-clause-accounts g c = c.loop-key.invariant.6
+
+pub returns-then-left-eq0-clause-grew : goal.returns-then-left-eq0-clause-grew
+returns-then-left-eq0-clause-grew g c = c.loop-key.invariant.8
 
 pub returns-clause-accounts : goal.returns-clause-accounts
 returns-clause-accounts g c = c.loop-key.invariant.6

@@ -1,100 +1,122 @@
-use Rattle.std.proofs.Common.{rules, ◌≡◌, sym, ◌∙◌, ap, refl}
-use Rattle.slab.specs.Slab.{get}
+use Rattle.std.proofs.Common.{rules, arith, ◌≡◌, sym, ◌∙◌, ap, refl}
+use Rattle.slab.specs.Slab.{get, with_value}
 use Rattle.conn_service.proofs.Lists.{grew_none}
 use Rattle.worker_loop.proofs.Servings.{step_open, step_over, step_lost, lost_stops, unfinished, moved, strayed}
 use Rattle.worker_loop.proofs.Accountings.{accounts_open, accounts_over}
-use Rattle.worker_loop.proofs.Comings.{went_only, went_turn, lost_turn, settled_key, settled_gone, settled_here, settled_vacant, found_vacant}
+use Rattle.worker_loop.proofs.Comings.{went_only, went_turn, lost_turn, settled_key, settled_gone, settled_here, settled_vacant}
+use Rattle.worker_loop.proofs.Meetings.{meets_open, meets_over}
+use Rattle.worker_loop.proofs.Places.{placed, placed_others, placed_len, others_then}
 use Rattle.worker_loop.proofs.worker.Worker.serve_key.Goals as goal
 
 pub serve-requires-clause-ready : goal.serve-requires-clause-ready
-serve-requires-clause-ready g c = (c.requires.1.tracks c.args.key c.in-Some.conn (sym c.in-Some.ensures.value)).ready
+serve-requires-clause-ready g c = (c.requires.1.tracks c.args.key c.in-Some.conn.now (sym c.in-Some.ensures.value)).ready
 
 pub serve-requires-clause-tracked : goal.serve-requires-clause-tracked
-serve-requires-clause-tracked g c = (c.requires.0 c.args.key, (c.requires.1.tracks c.args.key c.in-Some.conn (sym c.in-Some.ensures.value)).stands)
+serve-requires-clause-tracked g c = (c.requires.0 c.args.key, (c.requires.1.tracks c.args.key c.in-Some.conn.now (sym c.in-Some.ensures.value)).stands)
 
-pub returns-in_err-serve-clause-runs : goal.returns-in_err-serve-clause-runs
-returns-in_err-serve-clause-runs g c = λ base. step_lost _ _ c.args.key (sym c.in-Some.ensures.value) (strayed c.in_err-serve.ensures.lost) c.in-Some.ensures.updates.changed c.in-Some.ensures.updates.others
+pub returns-in-Err-clause-runs : goal.returns-in-Err-clause-runs
+returns-in-Err-clause-runs g c = λ base.
+    step_lost _ _ c.args.key (sym c.in-Some.ensures.value) (strayed c.in-Err.ensures.lost) c.forget.ensures.gone
+    (others_then c.args.self.now.conns (with_value c.args.self.now.conns c.args.key c.serve.new.conn) c.forget.new.self.conns c.args.key (placed_others c.args.self.now.conns c.args.key c.serve.new.conn) c.forget.ensures.others)
 
-pub returns-in_err-serve-clause-stops : goal.returns-in_err-serve-clause-stops
-returns-in_err-serve-clause-stops g c = lost_stops (strayed c.in_err-serve.ensures.lost)
+pub returns-in-Err-clause-stops : goal.returns-in-Err-clause-stops
+returns-in-Err-clause-stops g c = lost_stops (strayed c.in-Err.ensures.lost)
 
-pub returns-in_err-serve-clause-turn : goal.returns-in_err-serve-clause-turn
-returns-in_err-serve-clause-turn g c = lost_turn c.in_err-serve.ensures.lost
+pub returns-in-Err-clause-turn : goal.returns-in-Err-clause-turn
+returns-in-Err-clause-turn g c = lost_turn c.in-Err.ensures.lost
 
-pub returns-then-not-is_finished-clause-runs : goal.returns-then-not-is_finished-clause-runs
-returns-then-not-is_finished-clause-runs g c = λ base.
-    let at : c.insert_reserved.result ≡ c.args.key = c.insert_reserved.ensures.key ∙ c.in-Some.ensures.key_is_next in
-    step_open _ _ c.args.key (sym c.in-Some.ensures.value) (moved c.in_ok-serve.ensures.went)
-    (c.if-not-is_finished.ensures.unended (search rules))
-    (unfinished c.serve.new.conn c.if-not-is_finished.ensures.finished (search rules) c.in_ok-serve.ensures.ready)
-    c.in_ok-serve.ensures.told
-    (ap (get c.insert_reserved.new.self) (sym at) ∙ c.insert_reserved.ensures.updates.changed)
-    (λ k ne. c.insert_reserved.ensures.updates.others k (λ e. ne (e ∙ at)) ∙ c.in-Some.ensures.updates.others k ne)
+pub returns-in-Err-clause-grew : goal.returns-in-Err-clause-grew
+returns-in-Err-clause-grew g c = (c.in-Err.ensures.lost).1.desk.grew
 
-pub returns-then-not-is_finished-clause-stops : goal.returns-then-not-is_finished-clause-stops
-returns-then-not-is_finished-clause-stops g c = (moved c.in_ok-serve.ensures.went).unasked
+pub returns-in-Err-clause-fewer : goal.returns-in-Err-clause-fewer
+returns-in-Err-clause-fewer g c =
+    let less = c.forget.ensures.fewer in
+    let same = placed_len c.args.self.now.conns c.args.key c.in-Some.conn.now c.serve.new.conn (sym c.in-Some.ensures.value) in
+    omega (arith, less, same)
 
-pub returns-then-not-is_finished-clause-turn : goal.returns-then-not-is_finished-clause-turn
-returns-then-not-is_finished-clause-turn g c = went_turn c.in_ok-serve.ensures.went
+pub returns-else-is_finished-clause-fewer : goal.returns-else-is_finished-clause-fewer
+returns-else-is_finished-clause-fewer g c =
+    let same = placed_len c.args.self.now.conns c.args.key c.in-Some.conn.now c.serve.new.conn (sym c.in-Some.ensures.value) in
+    omega (arith, same)
 
-pub returns-then-not-is_finished-clause-others : goal.returns-then-not-is_finished-clause-others
-returns-then-not-is_finished-clause-others g c = λ k ne.
-    let at : c.insert_reserved.result ≡ c.args.key = c.insert_reserved.ensures.key ∙ c.in-Some.ensures.key_is_next in
-    c.insert_reserved.ensures.updates.others k (λ e. ne (e ∙ at)) ∙ c.in-Some.ensures.updates.others k ne
+pub returns-then-is_finished-clause-fewer : goal.returns-then-is_finished-clause-fewer
+returns-then-is_finished-clause-fewer g c =
+    let less = c.forget-then-is_finished.ensures.fewer in
+    let same = placed_len c.args.self.now.conns c.args.key c.in-Some.conn.now c.serve.new.conn (sym c.in-Some.ensures.value) in
+    omega (arith, less, same)
 
-pub returns-then-not-is_finished-clause-settled : goal.returns-then-not-is_finished-clause-settled
-returns-then-not-is_finished-clause-settled g c =
-    let at : c.insert_reserved.result ≡ c.args.key = c.insert_reserved.ensures.key ∙ c.in-Some.ensures.key_is_next in
-    settled_key c.args.self.now.conns c.insert_reserved.new.self c.args.key c.requires.1 (sym c.in-Some.ensures.value) (went_only c.in_ok-serve.ensures.went)
-    (λ k ne. c.insert_reserved.ensures.updates.others k (λ e. ne (e ∙ at)) ∙ c.in-Some.ensures.updates.others k ne)
-    (settled_here c.insert_reserved.new.self c.args.key (ap (get c.insert_reserved.new.self) (sym at) ∙ c.insert_reserved.ensures.updates.changed)
-    c.in_ok-serve.ensures.calm)
+pub returns-else-is_finished-clause-runs : goal.returns-else-is_finished-clause-runs
+returns-else-is_finished-clause-runs g c = λ base.
+    step_open _ _ c.args.key (sym c.in-Some.ensures.value) (moved c.in_default-serve.ensures.went)
+    (c.if-is_finished.ensures.unended (search rules))
+    (unfinished c.serve.new.conn c.if-is_finished.ensures.finished (search rules) c.in_default-serve.ensures.ready)
+    c.in_default-serve.ensures.told
+    (placed c.args.self.now.conns c.args.key c.in-Some.conn.now c.serve.new.conn (sym c.in-Some.ensures.value))
+    (placed_others c.args.self.now.conns c.args.key c.serve.new.conn)
 
-pub returns-else-not-is_finished-clause-runs : goal.returns-else-not-is_finished-clause-runs
-returns-else-not-is_finished-clause-runs g c = λ base. step_over _ _ c.args.key (sym c.in-Some.ensures.value) (moved c.in_ok-serve.ensures.went) (λ x. absurd x) (c.if-not-is_finished.ensures.served (search rules)) c.in-Some.ensures.updates.changed c.in-Some.ensures.updates.others
+pub returns-else-is_finished-clause-stops : goal.returns-else-is_finished-clause-stops
+returns-else-is_finished-clause-stops g c = (moved c.in_default-serve.ensures.went).unasked
 
-pub returns-else-not-is_finished-clause-stops : goal.returns-else-not-is_finished-clause-stops
-returns-else-not-is_finished-clause-stops g c = (moved c.in_ok-serve.ensures.went).unasked
+pub returns-else-is_finished-clause-turn : goal.returns-else-is_finished-clause-turn
+returns-else-is_finished-clause-turn g c = went_turn c.in_default-serve.ensures.went
 
-pub returns-else-not-is_finished-clause-turn : goal.returns-else-not-is_finished-clause-turn
-returns-else-not-is_finished-clause-turn g c = went_turn c.in_ok-serve.ensures.went
+pub returns-else-is_finished-clause-grew : goal.returns-else-is_finished-clause-grew
+returns-else-is_finished-clause-grew g c = (c.in_default-serve.ensures.went).desk.grew
 
-pub returns-else-not-is_finished-clause-settled : goal.returns-else-not-is_finished-clause-settled
-returns-else-not-is_finished-clause-settled g c =
-    settled_key c.args.self.now.conns c.try_remove.new.self c.args.key c.requires.1 (sym c.in-Some.ensures.value) (went_only c.in_ok-serve.ensures.went) c.in-Some.ensures.updates.others
-    (settled_gone _ c.try_remove.new.self c.args.key c.in-Some.ensures.updates.changed)
+pub returns-else-is_finished-clause-settled : goal.returns-else-is_finished-clause-settled
+returns-else-is_finished-clause-settled g c =
+    let later = with_value c.args.self.now.conns c.args.key c.serve.new.conn in
+    settled_key c.args.self.now.conns later c.args.key c.requires.1 (sym c.in-Some.ensures.value) (went_only c.in_default-serve.ensures.went)
+    (placed_others c.args.self.now.conns c.args.key c.serve.new.conn)
+    (settled_here later c.args.key (placed c.args.self.now.conns c.args.key c.in-Some.conn.now c.serve.new.conn (sym c.in-Some.ensures.value)) c.in_default-serve.ensures.calm)
+
+pub returns-else-is_finished-clause-accounts : goal.returns-else-is_finished-clause-accounts
+returns-else-is_finished-clause-accounts g c = λ base from.
+    accounts_open c.args.self.now.conns (with_value c.args.self.now.conns c.args.key c.serve.new.conn) c.args.key c.requires.1 (sym c.in-Some.ensures.value) c.in_default-serve.ensures.went c.in_default-serve.ensures.told
+    (placed c.args.self.now.conns c.args.key c.in-Some.conn.now c.serve.new.conn (sym c.in-Some.ensures.value))
+    (placed_others c.args.self.now.conns c.args.key c.serve.new.conn)
+
+pub returns-then-is_finished-clause-runs : goal.returns-then-is_finished-clause-runs
+returns-then-is_finished-clause-runs g c = λ base.
+    step_over _ _ c.args.key (sym c.in-Some.ensures.value) (moved c.in_default-serve.ensures.went) (λ x. absurd x) (c.if-is_finished.ensures.served (search rules)) c.forget-then-is_finished.ensures.gone
+    (others_then c.args.self.now.conns (with_value c.args.self.now.conns c.args.key c.serve.new.conn) c.forget-then-is_finished.new.self.conns c.args.key (placed_others c.args.self.now.conns c.args.key c.serve.new.conn) c.forget-then-is_finished.ensures.others)
+
+pub returns-then-is_finished-clause-stops : goal.returns-then-is_finished-clause-stops
+returns-then-is_finished-clause-stops g c = (moved c.in_default-serve.ensures.went).unasked
+
+pub returns-then-is_finished-clause-turn : goal.returns-then-is_finished-clause-turn
+returns-then-is_finished-clause-turn g c = went_turn c.in_default-serve.ensures.went
+
+pub returns-then-is_finished-clause-grew : goal.returns-then-is_finished-clause-grew
+returns-then-is_finished-clause-grew g c = (c.in_default-serve.ensures.went).desk.grew
+
+pub returns-then-is_finished-clause-settled : goal.returns-then-is_finished-clause-settled
+returns-then-is_finished-clause-settled g c =
+    settled_key c.args.self.now.conns c.forget-then-is_finished.new.self.conns c.args.key c.requires.1 (sym c.in-Some.ensures.value) (went_only c.in_default-serve.ensures.went)
+    (others_then c.args.self.now.conns (with_value c.args.self.now.conns c.args.key c.serve.new.conn) c.forget-then-is_finished.new.self.conns c.args.key (placed_others c.args.self.now.conns c.args.key c.serve.new.conn) c.forget-then-is_finished.ensures.others)
+    (settled_gone _ c.forget-then-is_finished.new.self.conns c.args.key c.forget-then-is_finished.ensures.gone)
+
+pub returns-then-is_finished-clause-accounts : goal.returns-then-is_finished-clause-accounts
+returns-then-is_finished-clause-accounts g c = λ base from.
+    accounts_over c.args.self.now.conns c.forget-then-is_finished.new.self.conns c.args.key c.requires.1 (sym c.in-Some.ensures.value) c.in_default-serve.ensures.went (c.if-is_finished.ensures.finished.0 (search rules)) c.forget-then-is_finished.ensures.gone
+    (others_then c.args.self.now.conns (with_value c.args.self.now.conns c.args.key c.serve.new.conn) c.forget-then-is_finished.new.self.conns c.args.key (placed_others c.args.self.now.conns c.args.key c.serve.new.conn) c.forget-then-is_finished.ensures.others)
+
+pub returns-else-is_finished-clause-met : goal.returns-else-is_finished-clause-met
+returns-else-is_finished-clause-met g c = λ first base.
+    meets_open c.args.self.now.conns (with_value c.args.self.now.conns c.args.key c.serve.new.conn) c.args.key (sym c.in-Some.ensures.value) c.in_default-serve.ensures.went
+    (placed c.args.self.now.conns c.args.key c.in-Some.conn.now c.serve.new.conn (sym c.in-Some.ensures.value))
+    (placed_others c.args.self.now.conns c.args.key c.serve.new.conn)
+
+pub returns-then-is_finished-clause-met : goal.returns-then-is_finished-clause-met
+returns-then-is_finished-clause-met g c = λ first base.
+    meets_over c.args.self.now.conns c.forget-then-is_finished.new.self.conns c.args.key c.requires.1 (sym c.in-Some.ensures.value) c.in_default-serve.ensures.went (c.if-is_finished.ensures.finished.0 (search rules))
+    (others_then c.args.self.now.conns (with_value c.args.self.now.conns c.args.key c.serve.new.conn) c.forget-then-is_finished.new.self.conns c.args.key (placed_others c.args.self.now.conns c.args.key c.serve.new.conn) c.forget-then-is_finished.ensures.others)
 
 pub returns-in_default-clause-turn : goal.returns-in_default-clause-turn
 returns-in_default-clause-turn g c = record { clocked = refl; no_more = refl }
 
 pub returns-in_default-clause-settled : goal.returns-in_default-clause-settled
-returns-in_default-clause-settled g c = settled_vacant c.args.self.now.conns c.try_remove.new.self c.args.key c.try_remove.ensures.updates.changed c.try_remove.ensures.updates.others
-
-pub returns-then-not-is_finished-clause-accounts : goal.returns-then-not-is_finished-clause-accounts
-returns-then-not-is_finished-clause-accounts g c = λ base from.
-    let at : c.insert_reserved.result ≡ c.args.key = c.insert_reserved.ensures.key ∙ c.in-Some.ensures.key_is_next in
-    accounts_open c.args.self.now.conns c.insert_reserved.new.self c.args.key c.requires.1 (sym c.in-Some.ensures.value) c.in_ok-serve.ensures.went c.in_ok-serve.ensures.told
-    (ap (get c.insert_reserved.new.self) (sym at) ∙ c.insert_reserved.ensures.updates.changed)
-    (λ k ne. c.insert_reserved.ensures.updates.others k (λ e. ne (e ∙ at)) ∙ c.in-Some.ensures.updates.others k ne)
-
-pub returns-else-not-is_finished-clause-accounts : goal.returns-else-not-is_finished-clause-accounts
-returns-else-not-is_finished-clause-accounts g c = λ base from.
-    accounts_over c.args.self.now.conns c.try_remove.new.self c.args.key c.requires.1 (sym c.in-Some.ensures.value) c.in_ok-serve.ensures.went (c.if-not-is_finished.ensures.finished.0 (search rules)) c.in-Some.ensures.updates.changed c.in-Some.ensures.updates.others
-
-pub returns-in_err-serve-clause-grew : goal.returns-in_err-serve-clause-grew
-returns-in_err-serve-clause-grew g c = (c.in_err-serve.ensures.lost).1.desk.grew
-
-pub returns-then-not-is_finished-clause-grew : goal.returns-then-not-is_finished-clause-grew
-returns-then-not-is_finished-clause-grew g c = (c.in_ok-serve.ensures.went).desk.grew
-
-pub returns-else-not-is_finished-clause-grew : goal.returns-else-not-is_finished-clause-grew
-returns-else-not-is_finished-clause-grew g c = (c.in_ok-serve.ensures.went).desk.grew
+returns-in_default-clause-settled g c = settled_vacant c.args.self.now.conns c.args.self.now.conns c.args.key (sym c.in_default.ensures.value) (λ k ne. refl)
 
 pub returns-in_default-clause-grew : goal.returns-in_default-clause-grew
 returns-in_default-clause-grew g c = grew_none (g.S.Shared.desk c.args.shared.now).generations
-
-pub returns-then-not-contains-clause-turn : goal.returns-then-not-contains-clause-turn
-returns-then-not-contains-clause-turn g c = record { clocked = refl; no_more = refl }
-
-pub returns-then-not-contains-clause-settled : goal.returns-then-not-contains-clause-settled
-returns-then-not-contains-clause-settled g c = settled_vacant c.args.self.now.conns c.args.self.now.conns c.args.key (found_vacant c.args.self.now.conns c.args.key c.contains.result c.contains.ensures (search rules)) (λ k ne. refl)

@@ -4,7 +4,7 @@ use Rattle.worker_loop.proofs.Accountings.{on_ok}
 use Rattle.worker_loop.proofs.worker.Worker.stop_all.Goals as goal
 
 pub loop-key-init : goal.loop-key-init
-loop-key-init g c = (c.requires, λ base gens why r. (r, why), unasked_none (g.W.World.seen c.args.world.now), λ k lt. absurd (omega arith), λ k le. past_slots c.args.self.now.conns.slots k (omega (arith, c.capacity-end.ensures.slots, le)), λ base from to all a. a, λ k le. refl, ends_none (g.W.World.seen c.args.world.now) c.args.self.now.conns)
+loop-key-init g c = (c.requires, λ base gens why r. (r, why), unasked_none (g.W.World.seen c.args.world.now), λ k lt. absurd (omega arith), λ k le. past_slots c.args.self.now.conns.slots k (omega (arith, c.capacity-end.ensures.slots, le)), λ base from to all a. a, λ k le. refl, ends_none (g.W.World.seen c.args.world.now) c.args.self.now.conns, λ first base all m. m)
 
 pub loop-key-preserved : goal.loop-key-preserved
 loop-key-preserved g c =
@@ -19,6 +19,7 @@ loop-key-preserved g c =
       λ base from to all a. on_ok c.stop_key-told.result (c.are_told-all.ensures.told all) (e.accounts base from to) (c.loop-key.invariant.5 base from to (c.are_told-all.ensures.all all) a),
       above_next c.args.self.now.conns c.loop-key.self.conns c.stop_key-told.new.self.conns c.loop-key.key c.loop-key.invariant.6 e.others,
       ends_then (g.W.World.seen c.args.world.now) (g.W.World.seen c.loop-key.world) (g.W.World.seen c.stop_key-told.new.world) c.args.self.now.conns c.loop-key.self.conns (within_kept c.args.self.now.conns c.loop-key.self.conns c.loop-key.key c.loop-key.invariant.3 c.loop-key.invariant.6) c.loop-key.invariant.7 e.ends,
+      λ first base all m. on_ok c.stop_key-told.result (c.are_told-all.ensures.told all) (e.met first base) (c.loop-key.invariant.8 first base (c.are_told-all.ensures.all all) m),
     )
 
 pub returns-clause-runs : goal.returns-clause-runs
@@ -26,6 +27,9 @@ returns-clause-runs g c = λ base gens why r. (c.loop-key.invariant.1 base gens 
 
 pub returns-clause-ended : goal.returns-clause-ended
 returns-clause-ended g c = gone_all c.loop-key.self.conns c.capacity-end.result (λ k lt. c.loop-key.invariant.3 k (omega (arith, lt, c.loop-key-test.false))) c.loop-key.invariant.4
+
+pub returns-clause-met : goal.returns-clause-met
+returns-clause-met g c = c.loop-key.invariant.8
 
 pub returns-clause-accounts : goal.returns-clause-accounts
 returns-clause-accounts g c = c.loop-key.invariant.5

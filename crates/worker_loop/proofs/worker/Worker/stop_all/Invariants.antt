@@ -1,5 +1,7 @@
 use Rattle.std.proofs.Common.{◌≡◌, ◌<◌, ◌≤◌, ℕ, List, None, true}
-use Rattle.slab.specs.Slab.{get}
+use Rattle.slab.specs.Slab.{Slab, get}
+use Rattle.conn_machine.specs.declared.conn.Conn.{Conn}
+use Rattle.worker_loop.specs.Met.{Meets}
 use Rattle.link_world.specs.Seen.{Seen}
 use Rattle.conversation.specs.Plans.{Plan}
 use Rattle.desk.specs.Desks.{Desk}
@@ -19,3 +21,4 @@ invariant-loop-key g l =
     × ((base : Seen) (from to : Desk) → l.all ≡ true → Accounts base (g.W.World.seen l.fn.world) from to l.fn.self.conns → Accounts base (g.W.World.seen l.world) from to l.self.conns)
     × ((k : ℕ) → l.key ≤ k → get l.self.conns k ≡ get l.fn.self.conns k)
     × EndsOnly (g.W.World.seen l.fn.world) (g.W.World.seen l.world) l.fn.self.conns
+    × ((first : Slab Conn) (base : Seen) → l.all ≡ true → Meets first base (g.W.World.seen l.fn.world) l.fn.self.conns → Meets first base (g.W.World.seen l.world) l.self.conns)

@@ -1,6 +1,7 @@
 use Rattle.std.proofs.Common.{sym, []}
 use Rattle.worker_loop.proofs.Servings.{step_over, step_lost, stopping_kept, stopping_lost, desk_of, moved, strayed, unasked_went, unasked_lost, ends_went, ends_lost, ends_none}
 use Rattle.worker_loop.proofs.Accountings.{accounts_over}
+use Rattle.worker_loop.proofs.Meetings.{meets_over}
 use Rattle.worker_loop.proofs.worker.Worker.stop_key.Goals as goal
 
 pub stop-requires-clause-linked : goal.stop-requires-clause-linked
@@ -28,6 +29,10 @@ returns-clause-unasked g c = unasked_went (moved (c.in_ok-stop.ensures.went (des
 pub returns-clause-accounts : goal.returns-clause-accounts
 returns-clause-accounts g c = λ base from to.
     accounts_over c.args.self.now.conns c.try_remove.new.self c.args.key c.requires.3.attends (sym c.in-Some.ensures.value) (c.in_ok-stop.ensures.went to) c.in_ok-stop.ensures.finished c.in-Some.ensures.updates.changed c.in-Some.ensures.updates.others
+
+pub returns-clause-met : goal.returns-clause-met
+returns-clause-met g c = λ first base.
+    meets_over c.args.self.now.conns c.try_remove.new.self c.args.key c.requires.3.attends (sym c.in-Some.ensures.value) (c.in_ok-stop.ensures.went (desk_of [])) c.in_ok-stop.ensures.finished c.in-Some.ensures.updates.others
 
 pub returns-in_err-stop-clause-ends : goal.returns-in_err-stop-clause-ends
 returns-in_err-stop-clause-ends g c = ends_lost c.args.self.now.conns c.args.key (sym c.in-Some.ensures.value) (strayed (c.in_err-stop.ensures.lost (desk_of [])))

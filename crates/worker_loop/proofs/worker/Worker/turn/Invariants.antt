@@ -1,5 +1,7 @@
 use Rattle.std.proofs.Common.{◌≡◌, ◌≤◌, true}
-use Rattle.slab.specs.Slab.{slab_len}
+use Rattle.slab.specs.Slab.{Slab, slab_len}
+use Rattle.conn_machine.specs.declared.conn.Conn.{Conn}
+use Rattle.worker_loop.specs.Met.{Meets}
 use Rattle.link_world.specs.Seen.{Seen}
 use Rattle.desk.specs.Desks.{Desk, Grew}
 use Rattle.worker_loop.specs.Accounts.{Accounts}
@@ -18,3 +20,4 @@ invariant-loop g l =
     × ((base : Seen) (from : Desk) → Accounts base (g.W.World.seen l.fn.world) from (g.S.Shared.desk l.fn.shared) l.fn.self.conns → Accounts base (g.W.World.seen l.world) from (g.S.Shared.desk l.shared) l.self.conns)
     × (slab_len l.fn.self.conns ≤ l.fn.self.links → slab_len l.self.conns ≤ l.self.links)
     × Grew (g.S.Shared.desk l.fn.shared).generations (g.S.Shared.desk l.shared).generations
+    × ((first : Slab Conn) (base : Seen) → Meets first base (g.W.World.seen l.fn.world) l.fn.self.conns → Meets first base (g.W.World.seen l.world) l.self.conns)

@@ -14,6 +14,12 @@ returns-in_default-clause-accounts g c = λ base from. c.in_ok-key.ensures.accou
 pub returns-clause-accounts : goal.returns-clause-accounts
 returns-clause-accounts g c = λ base from a. c.in_ok-serve_key.ensures.accounts base from (c.in_ok-key.ensures.accounts base from (g.S.Shared.desk c.args.shared.now) a)
 
+pub returns-in_default-clause-met : goal.returns-in_default-clause-met
+returns-in_default-clause-met g c = λ first base. c.in_ok-key.ensures.met first base
+
+pub returns-clause-met : goal.returns-clause-met
+returns-clause-met g c = λ first base m. c.in_ok-serve_key.ensures.met first base (c.in_ok-key.ensures.met first base m)
+
 pub returns-in_err-key-clause-grew : goal.returns-in_err-key-clause-grew
 returns-in_err-key-clause-grew g c = grew_none (g.S.Shared.desk c.args.shared.now).generations
 
