@@ -99,7 +99,7 @@ expect 3 'config Later' examples/services.toml < <(head_for site.test /)
 expect 3 'config Later' examples/middlewares.toml < <(head_for api.test /v1/)
 
 # What `replay` answers to a script is written out here byte for byte.
-replayed=$(./proxy replay < examples/first.script) || status=1
+replayed=$("$proxy" replay < examples/first.script) || status=1
 wanted='published 1
 link 0 sent HTTP/1.1 200 OK\r\nContent-Length: 2\r\n\r\nok
 link 1 to 127.0.0.1:9000 sent GET / HTTP/1.1\r\nHost: a.test\r\nX-Forwarded-For: 127.0.0.1\r\nX-Forwarded-Host: a.test\r\nX-Forwarded-Port: 80\r\nX-Forwarded-Proto: http\r\nX-Real-Ip: 127.0.0.1\r\nConnection: close\r\n\r\n
@@ -110,7 +110,7 @@ if [ "$replayed" != "$wanted" ]; then
   status=1
 fi
 refused=0
-text=$(sed '10s/.*/pin 0\npin 0/' examples/first.script | ./proxy replay) || refused=$?
+text=$(sed '10s/.*/pin 0\npin 0/' examples/first.script | "$proxy" replay) || refused=$?
 if [ "$refused" != 4 ] || [ "$text" != 'script 11 NotEnabled pin Look' ]; then
   echo "examples: a second pin answered '$text' with $refused"
   status=1
