@@ -60,11 +60,11 @@ fn two_clients(rt: HostRuntime) -> Result<(), Fail> {
     send_away(&rt, alloc, &mut world)?;
     assert_eq!(rt;
         world.note_lines(alloc, 0)?.as_slice(),
-        b"note 0 end Stopped\n"
+        "note 0 end Stopped\n".as_bytes()
     );
     assert_eq!(rt;
         world.note_lines(alloc, 1)?.as_slice(),
-        b"note 1 end Memory\n"
+        "note 1 end Memory\n".as_bytes()
     );
     assert!(rt; !world.is_open(0) && !world.is_open(1));
     Ok(())
