@@ -1,18 +1,9 @@
 #!/usr/bin/env bash
 # What `route` costs with 2,000 routers of plain rules, beside what reading the same file as TOML alone costs: the same file
 # with an unknown first key, at which the program stops right after it has read the TOML. User instructions, by callgrind.
-# PROXY names another program to be measured in place of ./proxy.
-set -euo pipefail
-cd "$(dirname "$0")/.."
+source "$(dirname "$0")/../tests/lib/common.sh"
 command -v valgrind >/dev/null || { echo "bench: valgrind isn't here; 'apt-get install valgrind'" >&2; exit 2; }
-if [ -n "${PROXY:-}" ]; then
-  proxy=$PROXY
-else
-  ./proxy >/dev/null 2>&1 || true   # builds what isn't built
-  proxy=crates/proxy_main/out/proxy_main
-fi
-room=$(mktemp -d)
-trap 'rm -rf "$room"' EXIT
+build
 python3 - > "$room/whole.toml" <<'END'
 for n in range(2000):
     print(f'[http.routers.r{n}]\nrule = "Host(`h{n}.test`) && PathPrefix(`/app/{n}`)"\nservice = "s"')

@@ -6,28 +6,19 @@
 #   bench/serve.sh [rounds]
 #
 # CPU is that of the proxying process alone, its kernel time included, so a busy machine moves the rates but hardly the
-# ratios. PROXY names another program to be measured in place of ./proxy.
-set -euo pipefail
-cd "$(dirname "$0")/.."
+# ratios.
+source "$(dirname "$0")/../tests/lib/common.sh"
 rounds=${1:-5}
 seconds=2
 clients=50
 idle=250   # `serve` takes 256 clients at a time
-proxy=$(readlink -f "${PROXY:-proxy}")
 PATH=$PATH:/usr/sbin
 for tool in nginx haproxy wrk curl python3 strace valgrind; do
   command -v "$tool" >/dev/null || { echo "bench: $tool isn't here; 'apt-get install $tool'" >&2; exit 2; }
 done
 
-room=$(mktemp -d)
+build
 chmod 755 "$room"   # for the backend, which doesn't run as root
-started=()
-end_all() {
-  for pid in "${started[@]}"; do kill "$pid" 2>/dev/null || true; done
-  wait 2>/dev/null || true
-  rm -rf "$room"
-}
-trap end_all EXIT
 
 # Each is given a listening port and a backend port of its own, so that none waits for another's ports.
 names=(nginx haproxy proxy)
@@ -88,23 +79,12 @@ command_of() {
   esac
 }
 
-# Starts words in the background, waits until the port answers, and leaves the process in `pid`.
-start() {
-  local at=$1; shift
-  "$@" >"$room/log" 2>&1 &
-  pid=$!
-  started+=("$pid")
-  for _ in $(seq 1 300); do
-    curl -sf -o /dev/null "http://127.0.0.1:$at/" && return
-    kill -0 "$pid" 2>/dev/null || break
-    sleep 0.1
-  done
-  echo "bench: '$*' doesn't answer at $at" >&2
-  tail -5 "$room/log" >&2
-  exit 1
+# Starts the one with this name, and waits for its first reply.
+begin() {
+  command_of "$1"
+  start "${port[$1]}" "${@:2}" "${command[@]}"
+  curl -sf -o /dev/null "http://127.0.0.1:${port[$1]}/" || { echo "bench: $1 doesn't answer" >&2; exit 1; }
 }
-
-stop() { kill "$1" 2>/dev/null || true; wait "$1" 2>/dev/null || true; }
 
 # Exactly so many requests, one after another, over kept connections.
 ask() { curl -sf -o /dev/null "http://127.0.0.1:$1/?[1-$2]"; }
@@ -115,10 +95,7 @@ load() { wrk -t1 -c"$2" -d"${3:-$seconds}s" "http://127.0.0.1:$1/"; }
 requests_in() { awk '/requests in/ { print $1 }' "$1"; }
 failures_in() { awk '/Socket errors/ { gsub(/,/, ""); n += $4 + $6 + $8 + $10 } /Non-2xx/ { n += $NF } END { print n + 0 }' "$1"; }
 
-[ -z "${PROXY:-}" ] && ./proxy >/dev/null 2>&1 || true   # builds what isn't built
-[ -n "${PROXY:-}" ] || proxy=$PWD/crates/proxy_main/out/proxy_main
 start "${back[nginx]}" nginx -c "$room/backend.conf"
-backend=$pid
 
 declare -A ticks total failed memory calls_1 calls_many instructions
 for name in "${names[@]}"; do ticks[$name]=0; total[$name]=0; failed[$name]=0; done
@@ -126,7 +103,7 @@ tick=$(getconf CLK_TCK)
 
 # CPU: by turns, so that a noise of the machine meets all of them.
 declare -A process
-for name in "${names[@]}"; do command_of "$name"; start "${port[$name]}" "${command[@]}"; process[$name]=$pid; done
+for name in "${names[@]}"; do begin "$name"; process[$name]=$pid; done
 for _ in $(seq 1 "$rounds"); do
   for name in "${names[@]}"; do
     before=$(cpu_ticks "${process[$name]}")
@@ -171,8 +148,7 @@ print("open", flush=True)
 sys.stdin.read()
 END
 for name in "${names[@]}"; do
-  command_of "$name"
-  start "${port[$name]}" "${command[@]}"
+  begin "$name"
   before=$(anonymous_kib "$pid")
   coproc holder { exec python3 "$room/idle.py" "${port[$name]}" "$idle"; }
   read -r _ <&"${holder[0]}"
@@ -183,11 +159,10 @@ done
 
 # User instructions: what 1,000 requests more cost.
 collected() {
-  command_of "$1"
-  start "${port[$1]}" valgrind --tool=callgrind --callgrind-out-file=/dev/null "${command[@]}"
+  begin "$1" valgrind --tool=callgrind --callgrind-out-file=/dev/null
   ask "${port[$1]}" "$2"
   stop "$pid"
-  awk '/Collected/ { print $NF }' "$room/log"
+  awk '/Collected/ { print $NF }' "$room/${port[$1]}.log"
 }
 for name in "${names[@]}"; do
   few=$(collected "$name" 100)

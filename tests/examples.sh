@@ -1,21 +1,10 @@
 #!/usr/bin/env bash
 # The built program answers the README's examples as they are written there, and each file of examples/.
-# PROXY names another program to be asked in place of ./proxy.
-set -euo pipefail
-cd "$(dirname "$0")/.."
-proxy=${PROXY:-./proxy}
-status=0
+source "$(dirname "$0")/lib/common.sh"
+build
 
-# expect STATUS TEXT FILE [WORD..]: what `route FILE WORD..` answers to the head on standard input.
-expect() {
-  local wanted_status=$1 wanted=$2 file=$3 got got_status=0
-  shift 3
-  got=$("$proxy" route "$file" "$@") || got_status=$?
-  if [ "$got" != "$wanted" ] || [ "$got_status" != "$wanted_status" ]; then
-    echo "examples: route $file answered '$got' with $got_status, and '$wanted' with $wanted_status is wanted"
-    status=1
-  fi
-}
+# expect STATUS LINE FILE [WORD..]: what `route FILE WORD..` answers to the head on standard input: one line, or nothing.
+expect() { answers "$1" "${2:+$2$'\n'}" "route $3" route "${@:3}"; }
 
 # head_for HOST TARGET [LINE] [METHOD]
 head_for() { printf '%s %s HTTP/1.1\r\nHost: %s\r\n%s\r\n' "${4:-GET}" "$2" "$1" "${3:+$3$'\r\n'}"; }
@@ -60,10 +49,8 @@ router last http://10.0.0.2:80 b.test /
 router watched http://10.0.0.1:8080 b.test /watched
 
 # The least and the greatest priority, one over it, and rules that are none: such a router leaves the others alone.
-work=$(mktemp -d)
-trap 'rm -rf "$work"' EXIT
 # A router by its name, its rule, and its priority if it has its own.
-add() { printf '[http.routers.%s]\nrule = "%s"\nservice = "s"\n%s\n' "$1" "$2" "${3:+priority = $3}" >>"$work/rules.toml"; }
+add() { printf '[http.routers.%s]\nrule = "%s"\nservice = "s"\n%s\n' "$1" "$2" "${3:+priority = $3}" >>"$room/rules.toml"; }
 add least 'PathPrefix(`/`)' -9223372036854775808
 add low 'PathPrefix(`/x`)' -1
 add own 'PathPrefix(`/x/`)'
@@ -78,8 +65,8 @@ add value 'Path(`x`)' 1000
 add bits 'ClientIP(`10.0.0.0/33`)' 1000
 add net 'Path(`/net`) && ClientIP(`::ffff:10.0.0.0/104`)' 1000
 add mixed 'Host(`mixed`) || Path(`/mixed`) && !Method(`get`)' 1000
-printf '[[http.services.s.loadBalancer.servers]]\nurl = "http://10.0.0.1:8080"\n' >>"$work/rules.toml"
-judged() { expect 0 "forward $1@file http://10.0.0.1:8080" "$work/rules.toml" < <(shift; head_for "$@"); }
+printf '[[http.services.s.loadBalancer.servers]]\nurl = "http://10.0.0.1:8080"\n' >>"$room/rules.toml"
+judged() { expect 0 "forward $1@file http://10.0.0.1:8080" "$room/rules.toml" < <(shift; head_for "$@"); }
 judged least a /
 judged low a /x
 judged own a /x/y
@@ -88,31 +75,23 @@ judged most a /most
 judged mixed mixed /
 judged mixed a /mixed '' POST
 judged least a /mixed
-expect 0 'forward net@file http://10.0.0.1:8080' "$work/rules.toml" --peer ::ffff:10.0.0.1 < <(head_for a /net)
-expect 0 'forward least@file http://10.0.0.1:8080' "$work/rules.toml" --peer 11.0.0.1 < <(head_for a /net)
-expect 0 'forward least@file http://10.0.0.1:8080' "$work/rules.toml" --peer 10.0.0.1 < <(head_for a /)
-grep -v '^priority = -9223372036854775808$' "$work/rules.toml" | sed '/^\[http.routers.least\]/,/^service/d' >"$work/without.toml"
-expect 0 '404' "$work/without.toml" < <(head_for a /)
+expect 0 'forward net@file http://10.0.0.1:8080' "$room/rules.toml" --peer ::ffff:10.0.0.1 < <(head_for a /net)
+expect 0 'forward least@file http://10.0.0.1:8080' "$room/rules.toml" --peer 11.0.0.1 < <(head_for a /net)
+expect 0 'forward least@file http://10.0.0.1:8080' "$room/rules.toml" --peer 10.0.0.1 < <(head_for a /)
+grep -v '^priority = -9223372036854775808$' "$room/rules.toml" | sed '/^\[http.routers.least\]/,/^service/d' >"$room/without.toml"
+expect 0 '404' "$room/without.toml" < <(head_for a /)
 
 # Files that are read and not served yet.
 expect 3 'config Later' examples/services.toml < <(head_for site.test /)
 expect 3 'config Later' examples/middlewares.toml < <(head_for api.test /v1/)
 
 # What `replay` answers to a script is written out here byte for byte.
-replayed=$("$proxy" replay < examples/first.script) || status=1
 wanted='published 1
 link 0 sent HTTP/1.1 200 OK\r\nContent-Length: 2\r\n\r\nok
 link 1 to 127.0.0.1:9000 sent GET / HTTP/1.1\r\nHost: a.test\r\nX-Forwarded-For: 127.0.0.1\r\nX-Forwarded-Host: a.test\r\nX-Forwarded-Port: 80\r\nX-Forwarded-Proto: http\r\nX-Real-Ip: 127.0.0.1\r\nConnection: close\r\n\r\n
 note 0 1 gen 1 router 0 status 200 Passed looks 0:1 picks 0:0-1:0 turns - backs 1
-note 0 end Client'
-if [ "$replayed" != "$wanted" ]; then
-  echo "examples: replay answered '$replayed'"
-  status=1
-fi
-refused=0
-text=$(sed '10s/.*/pin 0\npin 0/' examples/first.script | "$proxy" replay) || refused=$?
-if [ "$refused" != 4 ] || [ "$text" != 'script 11 NotEnabled pin Look' ]; then
-  echo "examples: a second pin answered '$text' with $refused"
-  status=1
-fi
+note 0 end Client
+'
+answers 0 "$wanted" 'first.script' replay < examples/first.script
+answers 4 $'script 11 NotEnabled pin Look\n' 'a second pin' replay < <(sed '10s/.*/pin 0\npin 0/' examples/first.script)
 exit "$status"

@@ -1,25 +1,12 @@
 #!/usr/bin/env bash
 # Files and heads at each limit and one past it, and files that are made to be dear: each gets its answer within 20 seconds.
-# PROXY names another program to be asked in place of ./proxy.
-set -euo pipefail
-cd "$(dirname "$0")/.."
-export LC_ALL=C
-proxy=${PROXY:-./proxy}
-seconds=20
-mib=1048576
-room=$(mktemp -d)
-trap 'rm -rf "$room"' EXIT
-status=0
+source "$(dirname "$0")/lib/common.sh"
+build
 
-# expect STATUS TEXT WHAT: what `route` answers to the head $room/head under the file on standard input.
+# expect STATUS LINE WHAT: what `route` answers to the head $room/head under the file on standard input.
 expect() {
-  local wanted_status=$1 wanted=$2 what=$3 got got_status=0
   cat > "$room/file.toml"
-  got=$(timeout "$seconds" "$proxy" route "$room/file.toml" < "$room/head") || got_status=$?
-  if [ "$got" != "$wanted" ] || [ "$got_status" != "$wanted_status" ]; then
-    echo "limits: $what: '${got:0:100}' with $got_status, and '${wanted:0:100}' with $wanted_status is wanted"
-    status=1
-  fi
+  answers "$1" "$2"$'\n' "$3" route "$room/file.toml" < "$room/head"
 }
 
 # many COUNT TEXT: the text so many times, each `@` in it the number in six digits.
@@ -35,7 +22,6 @@ filled() {
   printf '%s' "$3"
 }
 times() { printf "%$1s" '' | sed "s|.|$2|g"; }
-bytes() { head -c "$1" /dev/zero | tr '\0' "$2"; }
 
 server=$'[[http.services.s.loadBalancer.servers]]\nurl = "http://10.0.0.1"\n'
 # router NAME RULE: a router whose rule stands in quotes that need no escapes.

@@ -1,15 +1,10 @@
 #!/usr/bin/env bash
 # The built program serves many links: 1,000 requests over kept connections, 256 links at once while the next waits, and
-# one that sends garbage while the others notice nothing. PROXY names another program to be asked in place of ./proxy.
-set -euo pipefail
-cd "$(dirname "$0")/.."
-proxy=${PROXY:-./proxy}
-if ! command -v python3 >/dev/null; then
-  echo "links: left out, since python3 isn't there"
-  exit 0
-fi
-"$proxy" >/dev/null 2>&1 || true # builds the program
-exec python3 - "$proxy" <<'PYTHON'
+# one that sends garbage while the others notice nothing.
+source "$(dirname "$0")/lib/common.sh"
+needs python3
+build
+python3 - "$proxy" <<'PYTHON'
 import os, socket, subprocess, sys, tempfile, threading, time
 
 proxy = sys.argv[1]

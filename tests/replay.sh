@@ -1,26 +1,10 @@
 #!/usr/bin/env bash
 # Whole scripts: what links took and what is noted, with the bytes cut at each place; which line is refused, and why; how long one may be.
-# PROXY names another program to be asked in place of ./proxy.
-set -euo pipefail
-cd "$(dirname "$0")/.."
-export LC_ALL=C
-proxy=${PROXY:-./proxy}
-seconds=20
-mib=1048576
-room=$(mktemp -d)
-trap 'rm -rf "$room"' EXIT
-status=0
+source "$(dirname "$0")/lib/common.sh"
+build
 
 # expect STATUS TEXT WHAT: what `replay` answers to the script on standard input.
-expect() {
-  local wanted_status=$1 wanted=$2 what=$3 got_status=0
-  timeout "$seconds" "$proxy" replay > "$room/answer" || got_status=$?
-  printf '%s' "$wanted" > "$room/wanted"
-  if ! cmp -s "$room/answer" "$room/wanted" || [ "$got_status" != "$wanted_status" ]; then
-    echo "replay: $what: '$(head -c 300 "$room/answer")' with $got_status, and '${wanted:0:300}' with $wanted_status is wanted"
-    status=1
-  fi
-}
+expect() { answers "$1" "$2" "$3" replay; }
 
 # refuses LINE WHY: the script on standard input is refused at this line.
 refuses() { expect 4 "script $1 $2"$'\n' "$2 at line $1"; }
@@ -152,8 +136,6 @@ not_enabled() {
   done
   refuses 14 'NotEnabled took Exchange' < <(file; lines publish 'arrive web 127.0.0.1' "bytes 0 $request" 'pin 0' 'look 0' 'draw 0' 'dial 0' 'took 1 184')
 }
-
-bytes() { head -c "$1" /dev/zero | tr '\0' "$2"; }
 
 # A script of 4 MiB is read, and one byte more is too long. A client's buffer has room for 32,768 bytes.
 limits() {
