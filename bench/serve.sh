@@ -1,8 +1,8 @@
 #!/usr/bin/env bash
-# Puts the proxy beside nginx and HAProxy: one worker each, the same backend, one backend connection a request, bodies of
-# 1 KiB, no access log. It needs Debian's nginx, haproxy, wrk, curl, python3, strace and valgrind:
+# Puts the proxy beside nginx, HAProxy and the least that a C program can do (`least.c`): one worker each, the same
+# backend, one backend connection a request, bodies of 1 KiB, no access log. It needs Debian's packages:
 #
-#   apt-get install nginx haproxy wrk curl python3 strace valgrind
+#   apt-get install nginx haproxy wrk curl python3 strace valgrind gcc
 #   bench/serve.sh [rounds]
 #
 # CPU is that of the proxying process alone, its kernel time included, so a busy machine moves the rates but hardly the
@@ -13,7 +13,7 @@ seconds=2
 clients=50
 idle=250   # `serve` takes 256 clients at a time
 PATH=$PATH:/usr/sbin
-for tool in nginx haproxy wrk curl python3 strace valgrind; do
+for tool in nginx haproxy wrk curl python3 strace valgrind gcc; do
   command -v "$tool" >/dev/null || { echo "bench: $tool isn't here; 'apt-get install $tool'" >&2; exit 2; }
 done
 
@@ -21,9 +21,10 @@ build
 chmod 755 "$room"   # for the backend, which doesn't run as root
 
 # Each is given a listening port and a backend port of its own, so that none waits for another's ports.
-names=(nginx haproxy proxy)
-declare -A port=([nginx]=18080 [haproxy]=18081 [proxy]=18082)
-declare -A back=([nginx]=19080 [haproxy]=19081 [proxy]=19082)
+names=(nginx haproxy least proxy)
+declare -A port=([nginx]=18080 [haproxy]=18081 [proxy]=18082 [least]=18083)
+declare -A back=([nginx]=19080 [haproxy]=19081 [proxy]=19082 [least]=19083)
+gcc -O2 -o "$room/least" bench/least.c
 
 mkdir -p "$room/www"
 head -c 1024 /dev/zero | tr '\0' x > "$room/www/index.html"
@@ -75,6 +76,7 @@ command_of() {
   case $1 in
     nginx) command=(nginx -c "$room/nginx.conf") ;;
     haproxy) command=(haproxy -db -f "$room/haproxy.cfg") ;;
+    least) command=("$room/least" "${port[least]}" "${back[least]}") ;;
     proxy) command=("$proxy" serve "web=127.0.0.1:${port[proxy]}" --file "$room/proxy.toml") ;;
   esac
 }
@@ -97,7 +99,7 @@ failures_in() { awk '/Socket errors/ { gsub(/,/, ""); n += $4 + $6 + $8 + $10 } 
 
 start "${back[nginx]}" nginx -c "$room/backend.conf"
 
-declare -A ticks total failed memory calls_1 calls_many instructions
+declare -A ticks total failed memory calls_1 calls_many instructions beside
 for name in "${names[@]}"; do ticks[$name]=0; total[$name]=0; failed[$name]=0; done
 tick=$(getconf CLK_TCK)
 
@@ -147,37 +149,40 @@ for _ in range(int(sys.argv[2])):
 print("open", flush=True)
 sys.stdin.read()
 END
+hold() { coproc holder { exec python3 "$room/idle.py" "${port[$1]}" "$2"; }; read -r _ <&"${holder[0]}"; }
+let_go() { kill "$holder_PID"; wait "$holder_PID" 2>/dev/null || true; }
 for name in "${names[@]}"; do
   begin "$name"
   before=$(anonymous_kib "$pid")
-  coproc holder { exec python3 "$room/idle.py" "${port[$name]}" "$idle"; }
-  read -r _ <&"${holder[0]}"
+  hold "$name" "$idle"
   memory[$name]=$(awk -v grown="$(($(anonymous_kib "$pid") - before))" -v n="$idle" 'BEGIN { printf "%.2f", grown / n }')
-  kill "$holder_PID"; wait "$holder_PID" 2>/dev/null || true
+  let_go
   stop "$pid"
 done
 
-# User instructions: what 1,000 requests more cost.
+# User instructions: what 1,000 requests more cost, alone and beside idle connections.
 collected() {
   begin "$1" valgrind --tool=callgrind --callgrind-out-file=/dev/null
+  [ "$3" = 0 ] || hold "$1" "$3"
   ask "${port[$1]}" "$2"
+  [ "$3" = 0 ] || let_go
   stop "$pid"
   awk '/Collected/ { print $NF }' "$room/${port[$1]}.log"
 }
+more() { echo $((($(collected "$1" 1100 "$2") - $(collected "$1" 100 "$2")) / 1000)); }
 for name in "${names[@]}"; do
-  few=$(collected "$name" 100)
-  many=$(collected "$name" 1100)
-  instructions[$name]=$(((many - few) / 1000))
+  instructions[$name]=$(more "$name" 0)
+  beside[$name]=$(more "$name" "$idle")
 done
 
 microseconds() { awk -v t="${ticks[$1]}" -v hz="$tick" -v n="${total[$1]}" 'BEGIN { printf "%.1f", t / hz * 1e6 / n }'; }
 reference=$(microseconds nginx)
 echo "$(date +%F), $(nproc) processors: $(awk -F': ' '/model name/ { print $2; exit }' /proc/cpuinfo)"
 echo "$(nginx -v 2>&1 | sed 's/.*: //'), $(haproxy -v | awk 'NR == 1 { print $1, $3 }')"
-printf '| %-8s | %10s | %14s | %13s | %17s | %19s | %18s | %9s | %7s |\n' '' 'us CPU a request' 'ratio to nginx' 'instructions' 'calls, 1 client' "calls, $clients clients" 'KiB an idle link' 'requests' 'failed'
-echo '|---|---|---|---|---|---|---|---|---|'
+printf '| %-8s | %10s | %14s | %13s | %21s | %17s | %19s | %18s | %9s | %7s |\n' '' 'us CPU a request' 'ratio to nginx' 'instructions' "beside $idle idle links" 'calls, 1 client' "calls, $clients clients" 'KiB an idle link' 'requests' 'failed'
+echo '|---|---|---|---|---|---|---|---|---|---|'
 for name in "${names[@]}"; do
   spent=$(microseconds "$name")
   ratio=$(awk -v a="$spent" -v b="$reference" 'BEGIN { printf "%.2f", a / b }')
-  printf '| %-8s | %10s | %14s | %13s | %17s | %19s | %18s | %9s | %7s |\n' "$name" "$spent" "$ratio" "${instructions[$name]}" "${calls_1[$name]}" "${calls_many[$name]}" "${memory[$name]}" "${total[$name]}" "${failed[$name]}"
+  printf '| %-8s | %10s | %14s | %13s | %21s | %17s | %19s | %18s | %9s | %7s |\n' "$name" "$spent" "$ratio" "${instructions[$name]}" "${beside[$name]}" "${calls_1[$name]}" "${calls_many[$name]}" "${memory[$name]}" "${total[$name]}" "${failed[$name]}"
 done
