@@ -3,3 +3,4 @@ pub mod Cuts
 pub mod Names
 pub mod Values
 pub mod Words
+pub mod Pieces

@@ -4,6 +4,7 @@
 mod command;
 mod cuts;
 mod kind;
+mod laws;
 mod listens;
 mod lookup;
 mod numbers;
@@ -15,4 +16,5 @@ mod sorting;
 mod tests;
 
 pub use command::{Command, RoutePlan, WordFault};
+pub use laws::words_are_made_of_pieces;
 pub use read::read_words;

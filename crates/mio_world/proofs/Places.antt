@@ -1,5 +1,5 @@
 -- A change at one place, and what it means of each link.
-use Rattle.std.proofs.Common.{◌≡◌, ◌≢◌, ℕ, ◌+◌, ◌-◌, ◌%◌, ◌^◌, ◌<◌, ◌≤◌, List, length, get_or, refl, sym, ap, ◌∙◌, Bool, true, false, cond, subst, inl, inr, arith}
+use Rattle.std.proofs.Common.{◌≡◌, ◌≢◌, ℕ, ◌+◌, ◌-◌, ◌%◌, ◌^◌, ◌<◌, ◌≤◌, List, length, get_or, refl, sym, ap, ◌∙◌, Bool, true, false, cond, subst, inl, inr, arith, eqb-true}
 use Rattle.std.specs.Prelude.{◌==◌, ◌||◌, ◌&&◌, nat_lt, slice_set}
 use Rattle.std.specs.List.{All}
 use Rattle.std.proofs.lemmas.Bool.{cases_eq, cases_lt, false≢true}
@@ -9,7 +9,7 @@ use Rattle.std.proofs.lemmas.Grind.{common_steps}
 use Rattle.std.proofs.lemmas.List.Elements.{All-get_or}
 use Rattle.mio_world.specs.declared.slot.Slot.{Slot}
 use Rattle.mio_world.specs.declared.slot.Asked.{Asked}
-use Rattle.mio_world.specs.Slots.{Meaning, meaning, meaning_at, slot_at, no_slot, come_at, open_at, asked_at, untouched, never_come, new_meaning, shut_meaning, after_read, after_write, faults_after, read_failed, write_failed, Put}
+use Rattle.mio_world.specs.Slots.{Meaning, meaning, meaning_at, slot_at, no_slot, come_at, open_at, asked_at, untouched, never_come, new_meaning, shut_meaning, after_read, after_write, faults_after, read_failed, write_failed, slot_read, slot_written, Put}
 use Rattle.link_world.specs.declared.world.LinkRead.{LinkRead}
 use Rattle.link_world.specs.declared.world.LinkWrite.{LinkWrite}
 use Rattle.mio_world.specs.Tables.{IsOpenAt, IsOpenMeaning, Given, AreWithin, table_of, read_meaning, write_meaning, began}
@@ -206,14 +206,14 @@ asked_again : (waits : ℕ) (a : Asked) → a.wait ≡ waits → asked_at waits 
 asked_again waits a same = let z : (a.wait == waits) ≡ true = grind (arith, nat_tests, same) in rw z refl
 
 pub read_means : (waits link : ℕ) (o : Slot) (answer : LinkRead) → o.is_open ≡ true → o.given ≡ true → o.link ≡ link →
-    meaning_at waits (record o { faults = faults_after o.faults (read_failed answer); asked = after_read (asked_at waits o.asked) answer }) link ≡ read_meaning (meaning_at waits o link) answer
+    meaning_at waits (slot_read waits o answer) link ≡ read_meaning (meaning_at waits o link) answer
 read_means waits link o answer is_open given own =
     let e : (o.link == link) ≡ true = grind (arith, nat_tests, own) in
     let again : asked_at waits (after_read (asked_at waits o.asked) answer) ≡ after_read (asked_at waits o.asked) answer = asked_again waits (after_read (asked_at waits o.asked) answer) (asked_wait waits o.asked) in
     rw is_open (rw e (rw given (ap (λ (a : Asked). mean (nat_lt link o.link || true) (true) (faults_after o.faults (read_failed answer)) (a)) again)))
 
 pub write_means : (waits link : ℕ) (o : Slot) (answer : LinkWrite) → o.is_open ≡ true → o.given ≡ true → o.link ≡ link →
-    meaning_at waits (record o { faults = faults_after o.faults (write_failed answer); asked = after_write (asked_at waits o.asked) answer }) link ≡ write_meaning (meaning_at waits o link) answer
+    meaning_at waits (slot_written waits o answer) link ≡ write_meaning (meaning_at waits o link) answer
 write_means waits link o answer is_open given own =
     let e : (o.link == link) ≡ true = grind (arith, nat_tests, own) in
     let again : asked_at waits (after_write (asked_at waits o.asked) answer) ≡ after_write (asked_at waits o.asked) answer = asked_again waits (after_write (asked_at waits o.asked) answer) (asked_wait waits o.asked) in
@@ -229,37 +229,71 @@ shut_own waits link o given own =
     came true = refl
     came false = refl
 
-pub at_within : (slots : List Slot) (waits link : ℕ) (o : Slot) (at : ℕ) → IsOpenAt (table_of waits slots) link o → at ≡ link % 16384 → at < length slots
-at_within slots waits link o at h is = let within = open_within slots link (ap (λ (k : Slot). k.is_open) (sym h.slot) ∙ h.is_open) in omega (arith, within, is)
+both : (a b : Bool) → (a && b) ≡ true → (a ≡ true) × (b ≡ true)
+both true b is = (refl, is)
+both false b is = absurd (false≢true is)
 
-pub read_put : (slots : List Slot) (waits at link : ℕ) (o : Slot) (answer : LinkRead) (faults : ℕ) (asked : Asked) → IsOpenAt (table_of waits slots) link o → at ≡ link % 16384 → faults ≡ faults_after o.faults (read_failed answer) → asked ≡ after_read (asked_at waits o.asked) answer →
-    Put (table_of waits slots) link (read_meaning (meaning (table_of waits slots) link) answer) (table_of waits (slice_set slots at (record o { faults = faults; asked = asked })))
-read_put slots waits at link o answer faults asked h is counted told =
-    put_own slots waits at link (record o { faults = faults; asked = asked }) (read_meaning (meaning (table_of waits slots) link) answer) is (at_within slots waits link o at h is) h.own (ap (λ (k : Slot). k.link) (sym h.slot) ∙ h.own)
-    (ap (λ (f : ℕ). meaning_at waits (record o { faults = f; asked = asked }) link) counted
-    ∙ ap (λ (a : Asked). meaning_at waits (record o { faults = faults_after o.faults (read_failed answer); asked = a }) link) told
+pub at_within : (slots : List Slot) (waits at link : ℕ) → (meaning (table_of waits slots) link).is_open ≡ true → at ≡ link % 16384 → at < length slots
+at_within slots waits at link is_open is = let within = open_within slots link (both (slot_at slots link).is_open ((slot_at slots link).given && ((slot_at slots link).link == link)) is_open).0 in omega (arith, within, is)
+
+-- what stands at the place of an open link is the link's
+pub open_here : (slots : List Slot) (waits at link : ℕ) (o : Slot) → (meaning (table_of waits slots) link).is_open ≡ true → at ≡ link % 16384 → o ≡ get_or slots at o → IsOpenAt (table_of waits slots) link o
+open_here slots waits at link o is_open is read = record {
+  slot = here;
+  is_open = ap (λ (k : Slot). k.is_open) here ∙ (both (slot_at slots link).is_open ((slot_at slots link).given && ((slot_at slots link).link == link)) is_open).0;
+  given = ap (λ (k : Slot). k.given) here ∙ parts.0;
+  own = ap (λ (k : Slot). k.link) here ∙ (let same = parts.1 in grind (arith, nat_tests, same));
+}
+  where
+    here : o ≡ slot_at slots link
+    here = read ∙ get_or_default slots at o no_slot (at_within slots waits at link is_open is) ∙ ap (λ (k : ℕ). get_or slots k no_slot) is
+
+    parts : ((slot_at slots link).given ≡ true) × (((slot_at slots link).link == link) ≡ true)
+    parts = both (slot_at slots link).given ((slot_at slots link).link == link) (both (slot_at slots link).is_open ((slot_at slots link).given && ((slot_at slots link).link == link)) is_open).1
+
+-- it is otherwise now
+pub put_here : (slots : List Slot) (waits at link : ℕ) (o s : Slot) (m : Meaning) → IsOpenAt (table_of waits slots) link o → at ≡ link % 16384 → at < length slots → s.link ≡ link → meaning_at waits s link ≡ m →
+    Put (table_of waits slots) link m (table_of waits (slice_set slots at s))
+put_here slots waits at link o s m h is within own means = put_own slots waits at link s m is within own (ap (λ (k : Slot). k.link) (sym h.slot) ∙ h.own) means
+
+pub read_put : (slots : List Slot) (waits at link : ℕ) (o s : Slot) (answer : LinkRead) → IsOpenAt (table_of waits slots) link o → at ≡ link % 16384 → at < length slots → s ≡ slot_read waits o answer →
+    Put (table_of waits slots) link (read_meaning (meaning (table_of waits slots) link) answer) (table_of waits (slice_set slots at s))
+read_put slots waits at link o s answer h is within did =
+    put_here slots waits at link o s (read_meaning (meaning (table_of waits slots) link) answer) h is within (ap (λ (k : Slot). k.link) did ∙ h.own)
+    (ap (λ (k : Slot). meaning_at waits k link) did
     ∙ read_means waits link o answer h.is_open h.given h.own
     ∙ ap (λ (k : Slot). read_meaning (meaning_at waits k link) answer) h.slot)
 
-pub write_put : (slots : List Slot) (waits at link : ℕ) (o : Slot) (answer : LinkWrite) (faults : ℕ) (asked : Asked) → IsOpenAt (table_of waits slots) link o → at ≡ link % 16384 → faults ≡ faults_after o.faults (write_failed answer) → asked ≡ after_write (asked_at waits o.asked) answer →
-    Put (table_of waits slots) link (write_meaning (meaning (table_of waits slots) link) answer) (table_of waits (slice_set slots at (record o { faults = faults; asked = asked })))
-write_put slots waits at link o answer faults asked h is counted told =
-    put_own slots waits at link (record o { faults = faults; asked = asked }) (write_meaning (meaning (table_of waits slots) link) answer) is (at_within slots waits link o at h is) h.own (ap (λ (k : Slot). k.link) (sym h.slot) ∙ h.own)
-    (ap (λ (f : ℕ). meaning_at waits (record o { faults = f; asked = asked }) link) counted
-    ∙ ap (λ (a : Asked). meaning_at waits (record o { faults = faults_after o.faults (write_failed answer); asked = a }) link) told
+pub write_put : (slots : List Slot) (waits at link : ℕ) (o s : Slot) (answer : LinkWrite) → IsOpenAt (table_of waits slots) link o → at ≡ link % 16384 → at < length slots → s ≡ slot_written waits o answer →
+    Put (table_of waits slots) link (write_meaning (meaning (table_of waits slots) link) answer) (table_of waits (slice_set slots at s))
+write_put slots waits at link o s answer h is within did =
+    put_here slots waits at link o s (write_meaning (meaning (table_of waits slots) link) answer) h is within (ap (λ (k : Slot). k.link) did ∙ h.own)
+    (ap (λ (k : Slot). meaning_at waits k link) did
     ∙ write_means waits link o answer h.is_open h.given h.own
     ∙ ap (λ (k : Slot). write_meaning (meaning_at waits k link) answer) h.slot)
 
-pub close_put : (slots : List Slot) (waits at link : ℕ) (o : Slot) → IsOpenAt (table_of waits slots) link o → at ≡ link % 16384 →
+pub close_put : (slots : List Slot) (waits at link : ℕ) (o : Slot) → IsOpenAt (table_of waits slots) link o → at ≡ link % 16384 → at < length slots →
     Put (table_of waits slots) link (shut_meaning waits) (table_of waits (slice_set slots at (record o { is_open = false })))
-close_put slots waits at link o h is =
-    put_own slots waits at link (record o { is_open = false }) (shut_meaning waits) is (at_within slots waits link o at h is) h.own (ap (λ (k : Slot). k.link) (sym h.slot) ∙ h.own) (shut_own waits link o h.given h.own)
+close_put slots waits at link o h is within =
+    put_here slots waits at link o (record o { is_open = false }) (shut_meaning waits) h is within h.own (shut_own waits link o h.given h.own)
 
-pub read_within : (waits : ℕ) (a x y : Asked) (answer : LinkRead) → x ≡ after_read y answer → y ≡ asked_at waits a → x.wait ≤ waits
-read_within waits a x y answer is told = let e = ap (λ (k : Asked). k.wait) is ∙ ap (λ (k : Asked). k.wait) told ∙ asked_wait waits a in omega (arith, e)
+-- how often the link was read is told by its place
+pub reads_here : (slots : List Slot) (waits at link : ℕ) (o s : Slot) (answer : LinkRead) → IsOpenAt (table_of waits slots) link o → at ≡ link % 16384 → at < length slots → s ≡ slot_read waits o answer →
+    s.asked.reads ≡ (meaning (table_of waits (slice_set slots at s)) link).asked.reads
+reads_here slots waits at link o s answer h is within did =
+    let is_open : s.is_open ≡ true = ap (λ (k : Slot). k.is_open) did ∙ h.is_open in
+    let given : s.given ≡ true = ap (λ (k : Slot). k.given) did ∙ h.given in
+    let own : s.link ≡ link = ap (λ (k : Slot). k.link) did ∙ h.own in
+    let same : (s.link == link) ≡ true = grind (arith, nat_tests, own) in
+    let wait : s.asked.wait ≡ waits = ap (λ (k : Slot). k.asked.wait) did ∙ asked_wait waits o.asked in
+    let told : (meaning_at waits s link).asked ≡ s.asked = rw is_open (rw given (rw same (asked_again waits s.asked wait))) in
+    sym (ap (λ (k : Slot). (meaning_at waits k link).asked.reads) (set_here slots at link s is within) ∙ ap (λ (a : Asked). a.reads) told)
 
-pub write_within : (waits : ℕ) (a x y : Asked) (answer : LinkWrite) → x ≡ after_write y answer → y ≡ asked_at waits a → x.wait ≤ waits
-write_within waits a x y answer is told = let e = ap (λ (k : Asked). k.wait) is ∙ ap (λ (k : Asked). k.wait) told ∙ asked_wait waits a in omega (arith, e)
+pub read_within : (waits : ℕ) (o s : Slot) (answer : LinkRead) → s ≡ slot_read waits o answer → s.asked.wait ≤ waits
+read_within waits o s answer did = let e = ap (λ (k : Slot). k.asked.wait) did ∙ asked_wait waits o.asked in omega (arith, e)
+
+pub write_within : (waits : ℕ) (o s : Slot) (answer : LinkWrite) → s ≡ slot_written waits o answer → s.asked.wait ≤ waits
+write_within waits o s answer did = let e = ap (λ (k : Slot). k.asked.wait) did ∙ asked_wait waits o.asked in omega (arith, e)
 
 pub close_within : (slots : List Slot) (waits link : ℕ) (o : Slot) → IsOpenAt (table_of waits slots) link o → AreWithin waits slots → o.asked.wait ≤ waits
 close_within slots waits link o h all = let e = ap (λ (k : Slot). k.asked.wait) h.slot in let w = wait_within slots waits link all in omega (arith, e, w)

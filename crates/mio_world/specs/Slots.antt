@@ -40,6 +40,13 @@ write_failed write.Failed = true
 abbrev pub faults_after : ℕ → Bool → ℕ
 faults_after faults failed = cond failed (one_more faults) faults
 
+-- a place after a read of its link, and after a write
+abbrev pub slot_read : ℕ → Slot → LinkRead → Slot
+slot_read waits s answer = record s { faults = faults_after s.faults (read_failed answer); asked = after_read (asked_at waits s.asked) answer }
+
+abbrev pub slot_written : ℕ → Slot → LinkWrite → Slot
+slot_written waits s answer = record s { faults = faults_after s.faults (write_failed answer); asked = after_write (asked_at waits s.asked) answer }
+
 -- the places, and the waits that were made
 pub record TableView : Type 0 where
   pub slots : List Slot

@@ -195,22 +195,35 @@ impl Sockets {
         self.admit(at, stream, true);
     }
 
-    /// Reads the stream behind a place, unless it is known that nothing is there.
-    pub fn read(&mut self, at: usize, before: u64, room: &mut [u8]) -> LinkRead
+    /// Whether a read of the stream behind a place may give something.
+    pub fn is_readable(&self, at: usize) -> bool {
+        match self.lines.get(at) {
+            Some(line) => line.ready.readable,
+            None => true,
+        }
+    }
+
+    /// Reads the stream behind a place. It stands apart from its caller, which is short where nothing is there.
+    #[inline(never)]
+    pub fn read(&mut self, at: usize, room: &mut [u8]) -> LinkRead
         requires { 0 < length room.old }
         ensures { FitsRead result (length room.new) }
     {
         if at >= self.lines.len() {
             return LinkRead::Failed;
         }
-        let answer = read_line(&mut self.lines[at], room);
-        if before >= MANY && answer != LinkRead::NotYet {
-            self.eager = true;
-        }
-        answer
+        read_line(&mut self.lines[at], room)
     }
 
-    /// Writes to the stream behind a place, unless it is known that it has no room.
+    /// A link was read so often since the last wait, the last time with this answer.
+    pub fn count_reads(&mut self, reads: u64, last: LinkRead) {
+        if reads > MANY && last != LinkRead::NotYet {
+            self.eager = true;
+        }
+    }
+
+    /// Writes to the stream behind a place, unless it is known that it has no room. A stream without
+    /// room, of whose room the poll isn't told yet, is put into the queue.
     pub fn write(&mut self, at: usize, piece: &[u8]) -> LinkWrite
         requires { 0 < length piece.now }
         ensures { FitsWrite result (length piece.now) }
@@ -218,21 +231,14 @@ impl Sockets {
         if at >= self.lines.len() {
             return LinkWrite::Failed;
         }
-        let answer = write_line(&mut self.lines[at], piece);
-        self.watch_writing(at);
-        answer
-    }
-
-    // A stream without room, of whose room the poll isn't told yet, is put into the queue.
-    fn watch_writing(&mut self, at: usize) {
-        if at >= self.lines.len() {
-            return;
-        }
-        let ready = self.lines[at].ready;
+        let line = &mut self.lines[at];
+        let answer = write_line(line, piece);
+        let ready = &mut line.ready;
         if !ready.writable && ready.watch != Watch::Both && !ready.queued {
-            self.lines[at].ready.queued = true;
+            ready.queued = true;
             let _ = self.queue.push(at);
         }
+        answer
     }
 
     /// Lets go of the stream behind a place. It is closed when the other side has ended, or after a second.
@@ -366,9 +372,6 @@ fn read_line(line: &mut Line, room: &mut [u8]) -> LinkRead
     requires { 0 < length room.old }
     ensures { FitsRead result (length room.new) }
 {
-    if !line.ready.readable {
-        return LinkRead::NotYet;
-    }
     let size = room.len();
     let Some(stream) = &mut line.stream else {
         return LinkRead::Failed;

@@ -3,7 +3,7 @@ ghost use Rattle.std.specs.Prelude.{◌≡◌, ◌+◌, ◌<◌, ◌%◌, ◌^�
 ghost use Rattle.mio_world.specs.Slots.{TableView, Meaning, meaning, Put, new_meaning, never_come, shut_meaning};
 ghost use Rattle.mio_world.specs.Tables.{IsOpenAt, IsOpenMeaning, Given, AreWithin, table_of, read_meaning, write_meaning, began};
 
-use crate::slot::{Asked, Slot, count_fault, is_failed_read, is_failed_write};
+use crate::slot::{Asked, Slot};
 use link_world::{LinkRead, LinkWrite};
 use px_base::Memory;
 use std::alloc::Global;
@@ -52,11 +52,11 @@ impl Table {
         let mut slots = Vec::with_capacity(alloc, PLACES)?;
         for at in 0..PLACES {
             slots.push(Slot {
-                link: at as u64,
+                asked: UNTOUCHED,
+                faults: 0,
+                link: at as u32,
                 given: false,
                 is_open: false,
-                faults: 0,
-                asked: UNTOUCHED,
             })?;
         }
         Ok(Table { slots, waits: 0 })
@@ -69,23 +69,13 @@ impl Table {
         self.waits
     }
 
-    /// What is kept of an open link.
-    pub fn find(&self, link: u32) -> Option<Slot>
-        ensures open { IfSome result (IsOpenAt self.now link) }
-        ensures none { IfNone result ((meaning self.now link).is_open ≡ false) }
-        ensures means { IfSome result (λ _. IsOpenMeaning (meaning self.now link)) }
+    /// Whether a link was given and isn't closed.
+    pub fn is_open(&self, link: u32) -> bool
+        ensures { result ≡ (meaning self.now link).is_open }
     {
         match self.slots.get(place(link)) {
-            Some(slot) => {
-                // Callers rely on it that the count is one of 64 bits.
-                let _faults = faults_of(slot);
-                if slot.is_open && slot.given && slot.link == link as u64 {
-                    Some(*slot)
-                } else {
-                    None
-                }
-            }
-            None => None,
+            Some(slot) => slot.is_open && slot.given && slot.link == link,
+            None => false,
         }
     }
 
@@ -99,31 +89,35 @@ impl Table {
         give_at(&mut self.slots, at, waits)
     }
 
-    /// An open link was read, with this answer.
-    pub fn did_read(&mut self, link: u32, slot: Slot, answer: LinkRead)
-        requires { IsOpenAt self.old link slot }
-        ensures { Put self.old link (read_meaning (meaning self.old link) answer) self.new }
+    /// An open link was read, with this answer. Answers how often it was read since the last wait.
+    pub fn did_read(&mut self, link: u32, answer: LinkRead) -> u64
+        requires { (meaning self.old link).is_open ≡ true }
+        ensures means { IsOpenMeaning (meaning self.old link) }
+        ensures put { Put self.old link (read_meaning (meaning self.old link) answer) self.new }
+        ensures reads { result ≡ (meaning self.new link).asked.reads }
     {
         let waits = self.waits;
-        read_at(&mut self.slots, waits, link, slot, answer);
+        read_at(&mut self.slots, waits, link, answer)
     }
 
     /// An open link was written, with this answer.
-    pub fn did_write(&mut self, link: u32, slot: Slot, answer: LinkWrite)
-        requires { IsOpenAt self.old link slot }
-        ensures { Put self.old link (write_meaning (meaning self.old link) answer) self.new }
+    pub fn did_write(&mut self, link: u32, answer: LinkWrite)
+        requires { (meaning self.old link).is_open ≡ true }
+        ensures means { IsOpenMeaning (meaning self.old link) }
+        ensures put { Put self.old link (write_meaning (meaning self.old link) answer) self.new }
     {
         let waits = self.waits;
-        write_at(&mut self.slots, waits, link, slot, answer);
+        write_at(&mut self.slots, waits, link, answer);
     }
 
-    /// An open link is closed.
-    pub fn close(&mut self, link: u32, slot: Slot)
-        requires { IsOpenAt self.old link slot }
-        ensures { Put self.old link (shut_meaning self.old.waits) self.new }
+    /// Closes an open link.
+    pub fn close(&mut self, link: u32)
+        requires { (meaning self.old link).is_open ≡ true }
+        ensures means { IsOpenMeaning (meaning self.old link) }
+        ensures put { Put self.old link (shut_meaning self.old.waits) self.new }
     {
         let waits = self.waits;
-        close_at(&mut self.slots, waits, link, slot);
+        close_at(&mut self.slots, waits, link);
     }
 
     /// A wait begins what is meant of each link anew.
@@ -136,13 +130,6 @@ impl Table {
     }
 }
 
-fn faults_of(slot: &Slot) -> u64
-    ensures same { result ≡ slot.now.faults }
-    ensures small { result < 2 ^ 64 }
-{
-    slot.faults
-}
-
 // A new link at a place, where it has no open one and numbers are left.
 fn give_at(slots: &mut Vec<Slot>, at: usize, waits: u64) -> Option<u32>
     ensures given { IfSome result (λ link. Given waits slots.old.items link slots.new.items) }
@@ -153,79 +140,66 @@ fn give_at(slots: &mut Vec<Slot>, at: usize, waits: u64) -> Option<u32>
         return None;
     }
     let slot = slots[at];
-    if slot.is_open || slot.link % 16_384 != at as u64 {
+    if slot.is_open || place(slot.link) != at {
         return None;
     }
     let Some(link) = next_number(slot.link, slot.given) else {
         return None;
     };
     slots[at] = Slot {
-        link: link as u64,
-        given: true,
-        is_open: true,
-        faults: 0,
         asked: Asked {
             wait: waits,
             ..UNTOUCHED
         },
+        faults: 0,
+        link,
+        given: true,
+        is_open: true,
     };
     Some(link)
 }
 
 // The number after the last one of a place.
-fn next_number(link: u64, given: bool) -> Option<u32>
+fn next_number(link: u32, given: bool) -> Option<u32>
     ensures { IfSome result (λ next. next ≡ cond given (link + 16384) link) }
 {
     if given {
-        narrow(link.saturating_add(16_384))
+        link.checked_add(16_384)
     } else {
-        narrow(link)
+        Some(link)
     }
 }
 
-fn narrow(number: u64) -> Option<u32>
-    ensures { IfSome result (λ n. (n ≡ number) × (n < 2 ^ 32)) }
-{
-    match u32::try_from(number) {
-        Ok(n) => Some(n),
-        Err(_) => None,
-    }
-}
-
-fn read_at(slots: &mut Vec<Slot>, waits: u64, link: u32, slot: Slot, answer: LinkRead)
-    requires { IsOpenAt (table_of waits slots.old.items) link slot }
+fn read_at(slots: &mut Vec<Slot>, waits: u64, link: u32, answer: LinkRead) -> u64
+    requires { (meaning (table_of waits slots.old.items) link).is_open ≡ true }
+    ensures means { IsOpenMeaning (meaning (table_of waits slots.old.items) link) }
     ensures put { Put (table_of waits slots.old.items) link (read_meaning (meaning (table_of waits slots.old.items) link) answer) (table_of waits slots.new.items) }
     ensures within { AreWithin waits slots.old.items → AreWithin waits slots.new.items }
+    ensures reads { result ≡ (meaning (table_of waits slots.new.items) link).asked.reads }
 {
-    let slot = Slot {
-        faults: count_fault(slot.faults, is_failed_read(answer)),
-        asked: slot.asked.at(waits).read(answer),
-        ..slot
-    };
-    slots[place(link)] = slot;
+    let slot = &mut slots[place(link)];
+    slot.did_read(waits, answer);
+    slot.asked.reads
 }
 
-fn write_at(slots: &mut Vec<Slot>, waits: u64, link: u32, slot: Slot, answer: LinkWrite)
-    requires { IsOpenAt (table_of waits slots.old.items) link slot }
+fn write_at(slots: &mut Vec<Slot>, waits: u64, link: u32, answer: LinkWrite)
+    requires { (meaning (table_of waits slots.old.items) link).is_open ≡ true }
+    ensures means { IsOpenMeaning (meaning (table_of waits slots.old.items) link) }
     ensures put { Put (table_of waits slots.old.items) link (write_meaning (meaning (table_of waits slots.old.items) link) answer) (table_of waits slots.new.items) }
     ensures within { AreWithin waits slots.old.items → AreWithin waits slots.new.items }
 {
-    let slot = Slot {
-        faults: count_fault(slot.faults, is_failed_write(answer)),
-        asked: slot.asked.at(waits).written(answer),
-        ..slot
-    };
-    slots[place(link)] = slot;
+    let slot = &mut slots[place(link)];
+    slot.did_write(waits, answer);
 }
 
-fn close_at(slots: &mut Vec<Slot>, waits: u64, link: u32, slot: Slot)
-    requires { IsOpenAt (table_of waits slots.old.items) link slot }
+fn close_at(slots: &mut Vec<Slot>, waits: u64, link: u32)
+    requires { (meaning (table_of waits slots.old.items) link).is_open ≡ true }
+    ensures means { IsOpenMeaning (meaning (table_of waits slots.old.items) link) }
     ensures put { Put (table_of waits slots.old.items) link (shut_meaning waits) (table_of waits slots.new.items) }
     ensures within { AreWithin waits slots.old.items → AreWithin waits slots.new.items }
 {
-    let slot = Slot {
-        is_open: false,
-        ..slot
-    };
-    slots[place(link)] = slot;
+    let slot = &mut slots[place(link)];
+    // Callers rely on it that the count is one of 64 bits.
+    let _faults = slot.faults;
+    slot.is_open = false;
 }

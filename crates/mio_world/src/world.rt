@@ -91,10 +91,7 @@ impl<R: Net + Clock + Drop, K: Sink + Drop> MioWorld<R, K> {
     pub fn is_open(&self, link: u32) -> bool
         ensures { result ≡ (meaning self.now.table link).is_open }
     {
-        match self.table.find(link) {
-            Some(_) => true,
-            None => false,
-        }
+        self.table.is_open(link)
     }
 }
 
@@ -181,29 +178,28 @@ impl<R: Net + Clock + Drop, K: Sink + Drop> World for MioWorld<R, K> {
     }
 
     fn read(&mut self, link: u32, room: &mut [u8]) -> LinkRead {
-        let Some(slot) = self.table.find(link) else {
-            unreachable!()
-        };
-        let answer = self.sockets.read(place(link), slot.asked.reads, room);
-        self.table.did_read(link, slot, answer);
+        let at = place(link);
+        if !self.sockets.is_readable(at) {
+            self.table.did_read(link, LinkRead::NotYet);
+            return LinkRead::NotYet;
+        }
+        let answer = self.sockets.read(at, room);
+        let reads = self.table.did_read(link, answer);
+        self.sockets.count_reads(reads, answer);
         answer
     }
 
     fn write(&mut self, link: u32, piece: &[u8]) -> LinkWrite {
-        let Some(slot) = self.table.find(link) else {
-            unreachable!()
-        };
         let answer = self.sockets.write(place(link), piece);
-        self.table.did_write(link, slot, answer);
+        self.table.did_write(link, answer);
         answer
     }
 
     fn close(&mut self, link: u32) {
-        let Some(slot) = self.table.find(link) else {
-            return;
-        };
-        self.table.close(link, slot);
-        self.sockets.let_go(place(link), self.clock);
+        if self.table.is_open(link) {
+            self.table.close(link);
+            self.sockets.let_go(place(link), self.clock);
+        }
     }
 
     fn note(&mut self, note: Note) -> Result<(), Memory> {
