@@ -117,7 +117,9 @@ impl Conn {
     // Some room holds nothing, while no request and no note waits. Looks, picks and links leave with the note of their
     // request, and have no room then.
     fn has_spare_room(&self) -> bool {
-        let some = self.input.capacity() > 0 || self.out.capacity() > 0 || self.notes.capacity() > 0;
+        let some = self.input.capacity() > 0
+            || self.out.capacity() > 0
+            || self.notes.capacity() > 0;
         some && self.input.is_empty() && self.notes.is_empty()
     }
 
@@ -282,5 +284,6 @@ fn make_room<T>(held: &mut Vec<T>) -> Result<(), Memory>
     if held.len() < held.capacity() {
         return Ok(());
     }
-    held.reserve(1)
+    held.reserve(1)?;
+    Ok(())
 }

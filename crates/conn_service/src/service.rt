@@ -160,5 +160,8 @@ fn is_quiet(conn: &Conn) -> bool
     ensures open { IsTrue result → IsOpen conn.now }
     ensures none { IsTrue result → conn.now.notes.items ≡ [] }
 {
-    conn.is_open() && conn.notes.as_slice().is_empty()
+    if !conn.is_open() {
+        return false;
+    }
+    conn.notes.as_slice().is_empty()
 }
