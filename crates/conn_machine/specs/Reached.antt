@@ -1,5 +1,5 @@
 -- The machine, and the relation with the steps that it was told, which each call keeps.
-use Rattle.std.specs.Prelude.{◌≡◌, ◌≢◌, ◌⊎◌, ℕ, ◌+◌, ◌<◌, ◌≤◌, List, [], ◌∷◌, drop, Bool, true, false, Option, Some, None, Some, vec_len, vec_capacity}
+use Rattle.std.specs.Prelude.{◌≡◌, ◌≢◌, ◌⊎◌, ℕ, ◌+◌, ◌<◌, List, [], ◌∷◌, drop, Bool, true, false, Option, Some, None, Some, vec_len, vec_capacity}
 use Rattle.std.specs.List.{AllByRecursion}
 use Rattle.link_world.specs.declared.note.Note.{Note}
 use Rattle.link_world.specs.declared.note.NoteBody.{NoteBody}
