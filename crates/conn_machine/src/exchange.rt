@@ -102,7 +102,7 @@ fn exchange_for(alloc: Global, current: &Current) -> Result<BoxedBack, Memory>
         Asked::Request(request) => match &current.aim {
             Some(aim) => {
                 let back = Back::new(alloc, request.get(), &aim.server, aim.pass_host)?;
-                BoxedBack::new(alloc, back)
+                Ok(BoxedBack::new(alloc, back)?)
             }
             None => Err(AllocError),
         },
