@@ -136,10 +136,11 @@ found_row g item entry peer r v (Ok row) same is = λ h head. subst (λ (a : Jud
 found_row g item entry peer r v (Err e) same is = tt
 
 -- the same at equal parts
-pub found_at : (g g' : Generation) (item entry : List ℕ) (peer : Ip) (r : HttpRequest) (won won' : Option ℕ) → g ≡ g' → won ≡ won'
-    → FindsRow (plan_of g) item entry peer r won → FindsRow (plan_of g') item entry peer r won'
-found_at g g' item entry peer r won won' same is f = λ h head.
-    subst (λ (o : Option ℕ). IsWinner (plan_of g') entry (judged h r) peer o) is (subst (λ (x : Generation). IsWinner (plan_of x) entry (judged h r) peer won) same (f h head))
+pub found_at : (g g' : Generation) (item entry : List ℕ) (peer : Ip) (r r' : HttpRequest) (won won' : Option ℕ) → g ≡ g' → r ≡ r' → won ≡ won'
+    → FindsRow (plan_of g) item entry peer r won → FindsRow (plan_of g') item entry peer r' won'
+found_at g g' item entry peer r r' won won' same request is f = λ h head.
+    subst (λ (x : HttpRequest). IsWinner (plan_of g') entry (judged h x) peer won') request
+    (subst (λ (o : Option ℕ). IsWinner (plan_of g') entry (judged h r) peer o) is (subst (λ (x : Generation). IsWinner (plan_of x) entry (judged h r) peer won) same (f h head)))
 
 -- a head of fewer lines is one of at most so many
 pub spans_most : {few most : ℕ} {buf : List ℕ} {room : List HeaderSpan} {s : HeadSpans} → few ≤ most → AreHeadSpans few buf room s → AreHeadSpans most buf room s

@@ -178,11 +178,6 @@ abbrev pub IsFresh : ConnEvent → List Step → Type 0
 IsFresh (event.Dialled link) steps = IsNew link steps
 IsFresh _ steps = Unit {0}
 
--- how many bytes the event adds to the client's buffer
-abbrev pub bytes_of : ConnEvent → ℕ
-bytes_of (event.Bytes piece) = length piece.now
-bytes_of _ = 0
-
 -- the number of the last pin after the event
 abbrev pub number_after : ConnEvent → ℕ → ℕ
 number_after (event.Pinned issue) number = (plan_of (arc_value issue)).number

@@ -1,5 +1,5 @@
 -- The machine, and the relation with the steps that it was told, which each call keeps.
-use Rattle.std.specs.Prelude.{◌≡◌, ◌≢◌, ◌⊎◌, ℕ, ◌+◌, ◌<◌, ◌≤◌, List, [], ◌∷◌, drop, Bool, true, false, Option, Some, None, Some, vec_len, vec_capacity}
+use Rattle.std.specs.Prelude.{◌≡◌, ◌≢◌, ◌⊎◌, ℕ, ◌+◌, ◌<◌, List, [], ◌∷◌, drop, Bool, true, false, Option, Some, None, Some, vec_len, vec_capacity}
 use Rattle.std.specs.List.{AllByRecursion}
 use Rattle.link_world.specs.declared.note.Note.{Note}
 use Rattle.link_world.specs.declared.note.NoteBody.{NoteBody}
@@ -128,9 +128,8 @@ IsWant (want.Exchange link) c = Waits stage.Exchange c × (link ≡ c.current.li
 IsWant want.Links c = c.phase ≡ Open
 IsWant want.Ended c = c.phase ≢ Open
 
--- there is room for a piece of this length, and for a note
-pub record HasRoom (n : ℕ) (c : Conn) : Type 0 where
-  pub input : vec_len c.input + n ≤ vec_capacity c.input
+-- there is room for a note, a look, a pick and a link
+pub record HasRoom (c : Conn) : Type 0 where
   pub notes : vec_len c.notes < vec_capacity c.notes
   pub looks : vec_len c.looks < vec_capacity c.looks
   pub picks : vec_len c.picks < vec_capacity c.picks

@@ -1,5 +1,5 @@
 //! The machine of one client connection: what comes from its link.
-ghost use Rattle.std.specs.Prelude.{◌≡◌, ◌≤◌, ◌<◌, ◌+◌, ◌++◌, ◌∷◌, [], List, ℕ, length, take, false, IfOk, OnOk, OnErr, IsTrue, ◌↔◌, vec_len, vec_capacity};
+ghost use Rattle.std.specs.Prelude.{◌≡◌, ◌≤◌, ◌<◌, ◌++◌, ◌∷◌, [], List, ℕ, length, take, IfOk, OnOk, OnErr, IsTrue, ◌↔◌, vec_len, vec_capacity};
 ghost use Rattle.link_world.specs.Log.{came, gave, gave_end};
 ghost use Rattle.conversation.specs.Steps.{Step, happened, failed, stopped};
 ghost use Rattle.conn_machine.specs.Events.{IsEnabled};
@@ -71,30 +71,29 @@ impl Conn {
         })
     }
 
-    /// Makes the room for a piece of `n` bytes, for a note and for what it says.
-    pub fn reserve(&mut self, n: usize) -> Result<(), Memory>
+    /// Makes the room for a note and for what it says: a look, a pick and a link.
+    pub fn reserve(&mut self) -> Result<(), Memory>
         ensures client { self.new.client ≡ self.old.client }
         ensures current { self.new.current ≡ self.old.current }
         ensures phase { self.new.phase ≡ self.old.phase }
         ensures stage { self.new.stage ≡ self.old.stage }
         ensures input { self.new.input.items ≡ self.old.input.items }
-        ensures rest { self.new ≡ record self.old { notes = self.new.notes; looks = self.new.looks; picks = self.new.picks; backs = self.new.backs; input = self.new.input } }
+        ensures rest { self.new ≡ record self.old { notes = self.new.notes; looks = self.new.looks; picks = self.new.picks; backs = self.new.backs } }
         ensures notes { self.new.notes.items ≡ self.old.notes.items }
         ensures enabled { (shape : EventShape) → IsEnabled shape self.old → IsEnabled shape self.new }
-        ensures room { OnOk result (HasRoom n self.new) }
+        ensures room { OnOk result (HasRoom self.new) }
         ensures prompt { IsPrompt self.old → IsPrompt self.new }
         ensures over { self.new.over ≡ self.old.over }
         ensures pending { pending_of self.new ≡ pending_of self.old }
         ensures reached { (steps : List Step) → Reached steps self.old → Reached steps self.new }
     {
-        make_room(&mut self.notes, 1)?;
-        make_room(&mut self.looks, 1)?;
-        make_room(&mut self.picks, 1)?;
-        make_room(&mut self.backs, 1)?;
-        make_room(&mut self.input, n)
+        make_room(&mut self.notes)?;
+        make_room(&mut self.looks)?;
+        make_room(&mut self.picks)?;
+        make_room(&mut self.backs)
     }
 
-    /// Gives back the room that holds nothing, where no byte of a request waits.
+    /// Gives back the room that holds nothing, where no byte of a request waits and no note.
     pub fn rest(&mut self)
         ensures client { self.new.client ≡ self.old.client }
         ensures current { self.new.current ≡ self.old.current }
@@ -107,20 +106,26 @@ impl Conn {
         ensures pending { pending_of self.new ≡ pending_of self.old }
         ensures reached { (steps : List Step) → Reached steps self.old → Reached steps self.new }
     {
-        if self.input.as_slice().is_empty() {
-            self.input.shrink_to_fit();
-            self.out.shrink_to_fit();
-            self.notes.shrink_to_fit();
-            self.looks.shrink_to_fit();
-            self.picks.shrink_to_fit();
-            self.backs.shrink_to_fit();
+        if !self.has_spare_room() {
+            return;
         }
+        self.input.shrink_to_fit();
+        self.out.shrink_to_fit();
+        self.notes.shrink_to_fit();
+    }
+
+    // Some room holds nothing, while no request and no note waits. Looks, picks and links leave with the note of their
+    // request, and have no room then.
+    fn has_spare_room(&self) -> bool {
+        let some = self.input.capacity() > 0
+            || self.out.capacity() > 0
+            || self.notes.capacity() > 0;
+        some && self.input.is_empty() && self.notes.is_empty()
     }
 
     /// Bytes of the client.
     pub fn bytes(&mut self, alloc: Global, piece: &[u8]) -> Result<(), Memory>
-        requires open { IsOpen self.old }
-        requires room { vec_len self.old.input + length piece.now ≤ vec_capacity self.old.input }
+        requires { IsOpen self.old }
         ensures client { self.new.client ≡ self.old.client }
         ensures number { self.new.current.number ≡ self.old.current.number }
         ensures going { OnOk result (IsGoing self.new.phase) }
@@ -129,25 +134,29 @@ impl Conn {
         ensures reached { (steps : List Step) → Reached steps self.old
             → Reached (steps ++ happened self.old.client.link (gave piece.now) ∷ []) self.new }
     {
-        self.feed(piece);
+        self.feed(piece)?;
         if !matches!(self.stage, Stage::Head) {
             return Ok(());
         }
         self.find_head(alloc)
     }
 
-    fn feed(&mut self, piece: &[u8])
-        requires open { IsOpen self.old }
-        requires room { vec_len self.old.input + length piece.now ≤ vec_capacity self.old.input }
+    // Keeps bytes of the client. Where there is no memory for them the machine is broken.
+    fn feed(&mut self, piece: &[u8]) -> Result<(), Memory>
+        requires { IsOpen self.old }
         ensures client { self.new.client ≡ self.old.client }
         ensures current { self.new.current ≡ self.old.current }
         ensures pending { pending_of self.new ≡ pending_of self.old }
-        ensures open { IsOpen self.new }
+        ensures open { OnOk result (IsOpen self.new) }
+        ensures broken { OnErr result (self.new.phase ≡ Phase.Broken) }
         ensures stage { self.new.stage ≡ self.old.stage }
         ensures reached { (steps : List Step) → Reached steps self.old
             → Reached (steps ++ happened self.old.client.link (gave piece.now) ∷ []) self.new }
     {
-        add_in_room(&mut self.input, piece);
+        self.phase = Phase::Broken;
+        self.input.extend_from_slice(piece)?;
+        self.phase = Phase::Open;
+        Ok(())
     }
 
     /// The client's end.
@@ -267,23 +276,14 @@ fn front(input: &[u8]) -> &[u8]
     }
 }
 
-// Room for so many more.
-fn make_room<T>(held: &mut Vec<T>, n: usize) -> Result<(), Memory>
+// Room for one more.
+fn make_room<T>(held: &mut Vec<T>) -> Result<(), Memory>
     ensures items { held.new.items ≡ held.old.items }
-    ensures len { vec_len held.new ≡ vec_len held.old }
-    ensures room { OnOk result (vec_len held.new + n ≤ vec_capacity held.new) }
+    ensures room { OnOk result (vec_len held.new < vec_capacity held.new) }
 {
-    if n <= held.capacity() - held.len() {
+    if held.len() < held.capacity() {
         return Ok(());
     }
-    held.reserve(n)
-}
-
-fn add_in_room(out: &mut Vec<u8>, piece: &[u8])
-    requires { vec_len out.old + length piece.now ≤ vec_capacity out.old }
-    ensures { out.new.items ≡ out.old.items ++ piece.now }
-{
-    let Ok(()) = out.extend_from_slice(piece) else {
-        unreachable!()
-    };
+    held.reserve(1)?;
+    Ok(())
 }

@@ -1,6 +1,6 @@
 //! What happens to a connection, as one value, and the names of events and of states.
 ghost use Rattle.std.specs.Prelude.{◌≡◌};
-ghost use Rattle.conn_machine.specs.Events.{shape_of, bytes_of, back_shape_of, kind_of, back_kind_of, kind_text, state_text};
+ghost use Rattle.conn_machine.specs.Events.{shape_of, back_shape_of, kind_of, back_kind_of, kind_text, state_text};
 
 use generation::Generation;
 use link_world::{Look, NodePick};
@@ -128,16 +128,6 @@ impl<'a> ConnEvent<'a> {
             },
             ConnEvent::Took(n) => EventShape::Took(*n),
             ConnEvent::Stop => EventShape::Stop,
-        }
-    }
-
-    /// How many bytes it adds to the client's buffer, for `Conn::reserve`.
-    pub fn bytes_added(&self) -> usize
-        ensures { result ≡ bytes_of self.now }
-    {
-        match self {
-            ConnEvent::Bytes(piece) => piece.len(),
-            _ => 0,
         }
     }
 }

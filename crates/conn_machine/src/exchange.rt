@@ -9,6 +9,7 @@ ghost use Rattle.conn_machine.specs.Parts.{HasBegun};
 ghost use Rattle.conn_machine.specs.Prompt.{IsPrompt};
 ghost use Rattle.conn_machine.specs.Reached.{Reached, IsGoing, Waits, KeepsServer, back_pending_of};
 
+use crate::boxed::BoxedBack;
 use crate::conn::Conn;
 use crate::parts::{Aim, Asked, Current, Phase, Stage};
 use back_machine::Back;
@@ -87,19 +88,22 @@ impl Conn {
         ensures { result.now ≡ back_pending_of self.now }
     {
         match &self.current.back {
-            Some(back) => back.pending(),
+            Some(back) => back.get().pending(),
             None => &[],
         }
     }
 }
 
 // The exchange of the current request with its server.
-fn exchange_for(alloc: Global, current: &Current) -> Result<Back, Memory>
+fn exchange_for(alloc: Global, current: &Current) -> Result<BoxedBack, Memory>
     ensures { IfOk result (HasBegun current.now.asked current.now.aim) }
 {
     match &current.asked {
         Asked::Request(request) => match &current.aim {
-            Some(aim) => Back::new(alloc, request, &aim.server, aim.pass_host),
+            Some(aim) => {
+                let back = Back::new(alloc, request.get(), &aim.server, aim.pass_host)?;
+                Ok(BoxedBack::new(alloc, back)?)
+            }
             None => Err(AllocError),
         },
         Asked::Refused(_) => Err(AllocError),

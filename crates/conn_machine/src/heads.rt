@@ -4,6 +4,7 @@ ghost use Rattle.head_view.specs.Scans.{IsHeadWithin, AreHeadSpans};
 ghost use Rattle.conversation.specs.Asks.{IsServed, name_of};
 ghost use Rattle.conn_machine.specs.Parts.{IsFound};
 
+use crate::boxed::BoxedRequest;
 use crate::parts::Asked;
 use body_codec::Framing;
 use head_view::{EMPTY_HEADER_SPAN, HeadSpans, HeaderSpan, Scan, scan_request};
@@ -77,21 +78,21 @@ fn take_head(
     ensures { IfOk result (IsFound peer buf.now) }
 {
     match take_request(alloc, buf, room, spans, peer) {
-        Ok(request) => Ok(Found::Head(served(request), spans.len)),
+        Ok(request) => Ok(Found::Head(served(alloc, request)?, spans.len)),
         Err(RequestRefused::Head(fault)) => Ok(Found::Head(refused(fault), spans.len)),
         Err(RequestRefused::Memory) => Err(AllocError),
     }
 }
 
 // A request of a kind that isn't served yet is refused.
-fn served(request: Request) -> Asked
-    ensures { (IsServed request × (result ≡ Asked.Request request))
-        ⊎ ((¬ (IsServed request)) × (result ≡ Asked.Refused (Cause.Head HeadName.BadCoding))) }
+fn served(alloc: Global, request: Request) -> Result<Asked, Memory>
+    ensures { IfOk result (λ asked. (IsServed request × (asked ≡ Asked.Request request))
+        ⊎ ((¬ (IsServed request)) × (asked ≡ Asked.Refused (Cause.Head HeadName.BadCoding)))) }
 {
     if is_served(&request) {
-        Asked::Request(request)
+        Ok(Asked::Request(BoxedRequest::new(alloc, request)?))
     } else {
-        Asked::Refused(Cause::Head(HeadName::BadCoding))
+        Ok(Asked::Refused(Cause::Head(HeadName::BadCoding)))
     }
 }
 

@@ -1,6 +1,7 @@
 //! The machine of one client connection.
 #![tactic(auto)]
 
+mod boxed;
 mod conn;
 mod event;
 mod exchange;
@@ -18,6 +19,7 @@ mod tests;
 mod walks;
 mod wants;
 
+pub use boxed::{BoxedBack, BoxedRequest};
 pub use conn::Conn;
 pub use event::{BackEvent, BackShape, ConnEvent, EventKind, EventShape, StateName};
 pub use parts::{Aim, Asked, Client, Current, Phase, Stage};

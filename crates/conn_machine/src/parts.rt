@@ -1,7 +1,6 @@
 //! The parts of a connection's machine.
-use back_machine::Back;
+use crate::boxed::{BoxedBack, BoxedRequest};
 use generation::Generation;
-use http_wire::Request;
 use ip_net::Ip;
 use link_world::{Cause, EndCause};
 use px_base::{Bytes, Server};
@@ -20,7 +19,7 @@ pub struct Client {
 #[derive(Debug, Drop)]
 pub enum Asked {
     Nothing,
-    Request(Request),
+    Request(BoxedRequest),
     /// It is refused for this cause.
     Refused(Cause),
 }
@@ -48,7 +47,7 @@ pub struct Current {
     pub status: u16,
     pub cause: Cause,
     pub aim: Option<Aim>,
-    pub back: Option<Back>,
+    pub back: Option<BoxedBack>,
     /// The link that was dialled for it.
     pub link: u32,
 }

@@ -7,12 +7,13 @@ ghost use Rattle.conn_machine.specs.Prompt.{IsPrompt};
 ghost use Rattle.conn_machine.specs.Reached.{Reached, IsGoing, Waits, KeepsServer};
 ghost use Rattle.conn_machine.specs.Relays.{IsOutcome, IsVersion, heard_status, heard_cause, lost_cause};
 
+use crate::boxed::BoxedBack;
 use crate::conn::Conn;
 use crate::own::own_text;
 use crate::parts::{Asked, Phase, Stage};
 use crate::pins::end_after;
 use crate::relay::relay;
-use back_machine::{Back, BackCause, BackState, replies_are_unique};
+use back_machine::{BackCause, BackState, replies_are_unique};
 use link_world::{Cause, EndCause};
 use px_base::Memory;
 use std::alloc::{AllocError, Global};
@@ -201,16 +202,16 @@ fn cause_of(cause: BackCause, link: u32) -> Cause
     }
 }
 
-fn outcome_of(back: &Option<Back>) -> Outcome
+fn outcome_of(back: &Option<BoxedBack>) -> Outcome
     ensures { IsOutcome result back.now }
 {
     match back {
         None => Outcome::Going,
-        Some(back) => match back.state() {
+        Some(back) => match back.get().state() {
             BackState::Waiting => Outcome::Going,
             BackState::HeadRead => Outcome::Going,
             BackState::Done => Outcome::Whole,
-            BackState::Broken(cause) => match back.reply() {
+            BackState::Broken(cause) => match back.get().reply() {
                 Some(_) => Outcome::Cut,
                 None => Outcome::Lost(cause),
             },
@@ -219,20 +220,20 @@ fn outcome_of(back: &Option<Back>) -> Outcome
 }
 
 // The status, once there is a reply.
-fn status_by(back: &Back, status: u16) -> u16
+fn status_by(back: &BoxedBack, status: u16) -> u16
     ensures { result ≡ heard_status back.now.reply status }
 {
-    match back.reply() {
+    match back.get().reply() {
         Some(reply) => reply.status,
         None => status,
     }
 }
 
 // The cause, once there is a reply.
-fn cause_by(back: &Back, cause: Cause) -> Cause
+fn cause_by(back: &BoxedBack, cause: Cause) -> Cause
     ensures { result ≡ heard_cause back.now.reply cause }
 {
-    match back.reply() {
+    match back.get().reply() {
         Some(_) => Cause::Passed,
         None => cause,
     }
@@ -242,7 +243,7 @@ fn version_of(asked: &Asked) -> u8
     ensures { IsVersion asked.now result }
 {
     match asked {
-        Asked::Request(request) => request.version,
+        Asked::Request(request) => request.get().version,
         Asked::Refused(_) => 1,
         Asked::Nothing => 1,
     }

@@ -151,7 +151,7 @@ fn find_route(
         Asked::Refused(cause) => Ok(Routed::Refused(*cause)),
         Asked::Request(request) => match &current.issue {
             None => Ok(Routed::Unknown),
-            Some(issue) => match find_row(alloc, issue, request, item, entry, peer)? {
+            Some(issue) => match find_row(alloc, issue, request.get(), item, entry, peer)? {
                 Some(row) => match issue.target(row) {
                     Some(target) => Ok(Routed::Won(row, aim_at(alloc, target)?)),
                     // A winner is enabled.
@@ -256,7 +256,7 @@ pub(crate) fn end_after(current: &Current) -> Option<EndCause>
 {
     match &current.asked {
         Asked::Request(request) => {
-            if !request.keep {
+            if !request.get().keep {
                 Some(EndCause::Asked)
             } else if current.index >= 1000 {
                 Some(EndCause::Count)

@@ -3,7 +3,7 @@ ghost use Rattle.std.specs.Prelude.{◌≡◌, ◌++◌, ◌∷◌, [], None, So
 ghost use Rattle.back_machine.specs.Exchanges.{IsOpen};
 ghost use Rattle.conn_machine.specs.Relays.{Relays, new_head};
 
-use back_machine::Back;
+use crate::boxed::BoxedBack;
 use http_wire::spell_reply;
 use px_base::Memory;
 use std::alloc::{AllocError, Global};
@@ -11,7 +11,7 @@ use std::alloc::{AllocError, Global};
 /// Appends what a piece of the server's link adds to the reply: its head, once it is whole, and then content.
 pub fn relay(
     alloc: Global,
-    back: &mut Back,
+    back: &mut BoxedBack,
     piece: &[u8],
     version: u8,
     close: bool,
@@ -20,7 +20,7 @@ pub fn relay(
     ensures open { OnOk result (IsOpen back.old.state) }
     ensures relays { OnOk result (Relays back.old back.new piece.now version close out.old.items out.new.items) }
 {
-    if !back.state().is_open() {
+    if !back.get().state().is_open() {
         return Err(AllocError);
     }
     let had = has_reply(back);
@@ -35,7 +35,7 @@ pub fn relay(
 fn push_head(
     alloc: Global,
     had: bool,
-    back: &Back,
+    back: &BoxedBack,
     version: u8,
     close: bool,
     out: &mut Vec<u8>,
@@ -45,16 +45,16 @@ fn push_head(
     if had {
         return Ok(());
     }
-    match back.reply() {
+    match back.get().reply() {
         Some(reply) => spell_reply(alloc, reply, version, close, out),
         None => Ok(()),
     }
 }
 
-fn has_reply(back: &Back) -> bool
+fn has_reply(back: &BoxedBack) -> bool
     ensures { result ≡ is_some back.now.reply }
 {
-    match back.reply() {
+    match back.get().reply() {
         Some(_) => true,
         None => false,
     }

@@ -1,7 +1,7 @@
 //! The machine of one client connection: one call for every event.
 ghost use Rattle.std.specs.Prelude.{◌≡◌, ◌≤◌, ◌<◌, ◌-◌, ◌++◌, ◌∷◌, [], List, OnOk, IsTrue, ◌↔◌, length, vec_len, vec_capacity, false};
 ghost use Rattle.conversation.specs.Steps.{Step};
-ghost use Rattle.conn_machine.specs.Events.{IsEnabled, IsBackEnabled, IsAsked, IsFresh, buffer_limit, bytes_of, shape_of, back_shape_of, back_step_of, number_after, ServerAfter, state_of, stage_state, step_of};
+ghost use Rattle.conn_machine.specs.Events.{IsEnabled, IsBackEnabled, IsAsked, IsFresh, buffer_limit, shape_of, back_shape_of, back_step_of, number_after, ServerAfter, state_of, stage_state, step_of};
 ghost use Rattle.conn_machine.specs.Prompt.{IsPrompt};
 ghost use Rattle.conn_machine.specs.Reached.{Reached, KeepsServer, IsGoing, IsOpen, Waits, HasRoom, WantsNode, back_pending_of, pending_of};
 
@@ -20,7 +20,7 @@ impl Conn {
     pub fn step(&mut self, alloc: Global, event: ConnEvent<'_>) -> Result<(), Memory>
         requires enabled { IsEnabled (shape_of event) self.old }
         requires asked { IsAsked event self.old }
-        requires room { HasRoom (bytes_of event) self.old }
+        requires room { HasRoom self.old }
         ensures client { self.new.client ≡ self.old.client }
         ensures number { self.new.current.number ≡ number_after event.entry self.old.current.number }
         ensures going { OnOk result (IsGoing self.new.phase) }

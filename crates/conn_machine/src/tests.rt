@@ -82,7 +82,7 @@ fn expect_pending(rt: &impl Abort, conn: &Conn, act: Act) {
 fn play(rt: &impl Abort, alloc: Global, conn: &mut Conn, act: Act) -> Result<(), Fail> {
     expect_pending(rt, conn, act);
     let event = event_of(alloc, act)?;
-    conn.reserve(event.bytes_added())?;
+    conn.reserve()?;
     let comes = conn.enabled(event.shape()) && conn.asked(&event);
     assert!(rt; comes);
     if comes {

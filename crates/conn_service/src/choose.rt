@@ -48,7 +48,6 @@ fn pin<R: Wait, S: Shared>(
     ensures looks { OnOk result (0 < (S.room shared.new).looks) }
     ensures picks { OnOk result (0 < (S.room shared.new).picks) }
 {
-    conn.reserve(0)?;
     let issue = shared.pin()?;
     let attended = shared.attend(rt, &issue);
     conn.pin(alloc, issue)?;
@@ -71,7 +70,7 @@ fn look<R: Wait, S: Shared>(
     let Want::Look { node } = conn.want() else {
         return Ok(());
     };
-    conn.reserve(0)?;
+    conn.reserve()?;
     let mask = shared.look(conn.current.number, node);
     conn.looked(alloc, Look { node, mask })?;
     draw(conn, rt, alloc, shared, mask)
@@ -93,7 +92,7 @@ fn draw<R: Wait, S: Shared>(
     let Want::Walk { node } = conn.want() else {
         return Ok(());
     };
-    conn.reserve(0)?;
+    conn.reserve()?;
     match shared.draw(rt, conn.current.number, node, mask) {
         Drawn::Pick(pick) => {
             conn.drew(NodePick { node, pick });

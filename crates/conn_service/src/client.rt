@@ -1,5 +1,5 @@
 //! The client's link is read and written.
-ghost use Rattle.std.specs.Prelude.{◌≡◌, ◌≢◌, ◌≤◌, ◌<◌, ◌+◌, [], ℕ, length, true, false, IfOk, OnOk, IfNone, IfSome, vec_len, vec_capacity};
+ghost use Rattle.std.specs.Prelude.{◌≡◌, ◌≢◌, ◌≤◌, ◌<◌, ◌+◌, [], length, true, false, IfOk, OnOk, IfNone, IfSome, vec_len, vec_capacity};
 ghost use Rattle.link_world.specs.Lately.{Lately};
 ghost use Rattle.desk.specs.Desks.{Desk};
 ghost use Rattle.conn_machine.specs.Prompt.{IsPrompt};
@@ -15,9 +15,6 @@ use conn_machine::Conn;
 use link_world::{LinkRead, LinkWrite, World};
 use px_base::Memory;
 use std::alloc::Global;
-
-// As many bytes are read at once where none wait: most requests fit, and a link that gives nothing costs little.
-const FIRST_ROOM: usize = 1_000;
 
 /// Reads the client's link, where it may be read. Answers whether anything came of it.
 pub(crate) fn receive<W: World>(
@@ -41,7 +38,6 @@ pub(crate) fn receive<W: World>(
     let Some(room) = room_for(conn, reads) else {
         return Ok(false);
     };
-    conn.reserve(room)?;
     reads.client += 1;
     receive_into(conn, alloc, world, &mut buffer[..room])
 }
@@ -64,9 +60,6 @@ fn room_for(conn: &Conn, reads: &Reads) -> Option<usize>
     if held >= ROOM {
         return None;
     }
-    if held == 0 {
-        return Some(FIRST_ROOM);
-    }
     Some(ROOM - held)
 }
 
@@ -80,7 +73,6 @@ fn receive_into<W: World>(
     requires linked { Linked (W.seen world.old) conn.old }
     requires open { IsOpen conn.old }
     requires some { 0 < length room.old }
-    requires room { vec_len conn.old.input + length room.old ≤ vec_capacity conn.old.input }
     ensures went { (g : Desk) → Went ⊥ (moment (W.seen world.old) (W.lately world.old) g conn.old)
         (moment (W.seen world.new) (W.lately world.new) g conn.new) }
     ensures server { KeepsServer conn.old conn.new }
@@ -131,7 +123,7 @@ pub(crate) fn answer<W: World>(
     if conn.pending().is_empty() {
         return Ok(false);
     }
-    conn.reserve(0)?;
+    conn.reserve()?;
     send(conn, alloc, world)
 }
 

@@ -28,7 +28,7 @@ pub(crate) fn dial<W: World>(conn: &mut Conn, alloc: Global, world: &mut W) -> R
     let Want::Dial = conn.want() else {
         return Ok(());
     };
-    conn.reserve(0)?;
+    conn.reserve()?;
     let Some(aim) = &conn.current.aim else {
         return Err(AllocError);
     };
@@ -55,7 +55,7 @@ pub(crate) fn ask<W: World>(conn: &mut Conn, alloc: Global, world: &mut W) -> Re
     if conn.back_pending().is_empty() {
         return Ok(false);
     }
-    conn.reserve(0)?;
+    conn.reserve()?;
     match world.write(link, conn.back_pending()) {
         LinkWrite::Took(n) => {
             conn.back_took(n);
@@ -94,7 +94,7 @@ pub(crate) fn hear<W: World>(
     if reads.server >= READS {
         return Ok(false);
     }
-    conn.reserve(0)?;
+    conn.reserve()?;
     reads.server += 1;
     match world.read(link, buffer) {
         LinkRead::Got(n) => {

@@ -1,5 +1,5 @@
 //! What a worker does with one connection in a turn, where it stops and where it finds no memory.
-ghost use Rattle.std.specs.Prelude.{◌≡◌, ◌⊎◌, [], OnOk, OnErr};
+ghost use Rattle.std.specs.Prelude.{◌≡◌, ◌⊎◌, [], IsTrue, OnOk, OnErr};
 ghost use Rattle.desk.specs.Desks.{Desk};
 ghost use Rattle.conn_machine.specs.Prompt.{IsPrompt};
 ghost use Rattle.conn_machine.specs.Reached.{IsOpen, IsFinished, IsEnding, notes_left};
@@ -146,8 +146,22 @@ fn tell<W: World>(conn: &mut Conn, alloc: Global, world: &mut W) -> Result<(), M
     ensures open { OnOk result (IsOpen conn.old → conn.new ≡ record conn.old { notes = conn.new.notes }) }
     ensures finished { OnOk result (IsEnding conn.old.phase → IsFinished conn.new) }
 {
+    if is_quiet(conn) {
+        return Ok(());
+    }
     'notes: while let Some(note) = conn.take_note(alloc) {
         world.note(note)?;
     }
     Ok(())
+}
+
+// An open connection that has no note to tell.
+fn is_quiet(conn: &Conn) -> bool
+    ensures open { IsTrue result → IsOpen conn.now }
+    ensures none { IsTrue result → conn.now.notes.items ≡ [] }
+{
+    if !conn.is_open() {
+        return false;
+    }
+    conn.notes.as_slice().is_empty()
 }

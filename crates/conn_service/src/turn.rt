@@ -87,7 +87,7 @@ fn round<R: Wait, W: World, S: Shared>(
     ensures calm { IfOk result (λ moved. moved ≡ false → Calm (W.lately world.new) conn.new) }
 {
     match conn.stage {
-        Stage::Head => pass(conn, alloc, world, buffer, reads),
+        Stage::Head => listen(conn, alloc, world, buffer, reads),
         Stage::Exchange => pass(conn, alloc, world, buffer, reads),
         Stage::Reply => pass(conn, alloc, world, buffer, reads),
         Stage::Pin => {
@@ -99,6 +99,30 @@ fn round<R: Wait, W: World, S: Shared>(
         // Nothing stays there: each choice is made at once.
         _ => Err(AllocError),
     }
+}
+
+// Serves the client's link once, where no server's is in use.
+fn listen<W: World>(
+    conn: &mut Conn,
+    alloc: Global,
+    world: &mut W,
+    buffer: &mut [u8],
+    reads: &mut Reads,
+) -> Result<bool, Memory>
+    requires linked { Linked (W.seen world.old) conn.old }
+    requires buffer { length buffer.old ≡ 32768 }
+    requires stage { conn.old.stage ≡ Stage.Head }
+    requires prompt { IsPrompt conn.old }
+    requires counted { Counted reads.old (W.lately world.old) conn.old }
+    ensures went { (g : Desk) → Went ⊥ (moment (W.seen world.old) (W.lately world.old) g conn.old)
+        (moment (W.seen world.new) (W.lately world.new) g conn.new) }
+    ensures prompt { OnOk result (IsPrompt conn.new) }
+    ensures counted { Counted reads.new (W.lately world.new) conn.new }
+    ensures calm { IfOk result (λ moved. moved ≡ false → Calm (W.lately world.new) conn.new) }
+{
+    let received = receive(conn, alloc, world, buffer, reads)?;
+    let answered = answer(conn, alloc, world)?;
+    Ok(either(received, answered))
 }
 
 // Serves each link once, and closes the link to a server whose exchange is over.
@@ -154,6 +178,13 @@ fn pass_once<W: World>(
     let heard = hear(conn, alloc, world, buffer, reads)?;
     let answered = answer(conn, alloc, world)?;
     Ok(any(received, asked, heard, answered))
+}
+
+// One of the two holds.
+fn either(received: bool, answered: bool) -> bool
+    ensures { result ≡ false → (received ≡ false) × (answered ≡ false) }
+{
+    received || answered
 }
 
 // One of these holds.

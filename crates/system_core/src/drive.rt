@@ -1,7 +1,7 @@
 // One event of one connection, and the notes that follow it.
 ghost use Rattle.std.specs.Prelude.{◌≡◌, ◌≤◌, ℕ, OnOk};
 ghost use Rattle.conversation.specs.Steps.{stopped as told_stop};
-ghost use Rattle.conn_machine.specs.Events.{IsEnabled, IsAsked, bytes_of, shape_of, step_of, number_after};
+ghost use Rattle.conn_machine.specs.Events.{IsEnabled, IsAsked, shape_of, step_of, number_after};
 ghost use Rattle.conn_machine.specs.Reached.{IsDrained, IsOpen};
 ghost use Rattle.system_core.specs.Drives.{Noted, Driven};
 
@@ -23,7 +23,7 @@ pub(crate) fn drive(
     // It isn't pinned to a greater number than the event's or its own.
     ensures number { (n : ℕ) → number_after event.entry 0 ≤ n → conn.old.current.number ≤ n → conn.new.current.number ≤ n }
 {
-    conn.reserve(bytes_of_event(&event))?;
+    conn.reserve()?;
     conn.step(alloc, event)?;
     tell_notes(alloc, conn, notes)?;
     Ok(())
@@ -39,16 +39,6 @@ pub(crate) fn halt(alloc: Global, conn: &mut Conn, notes: &mut Vec<Note>) -> Res
     conn.stop();
     tell_notes(alloc, conn, notes)?;
     Ok(())
-}
-
-// How many bytes the event adds to the client's buffer.
-fn bytes_of_event(event: &ConnEvent<'_>) -> usize
-    ensures { result ≡ bytes_of event.now }
-{
-    match event {
-        ConnEvent::Bytes(piece) => piece.len(),
-        _ => 0,
-    }
 }
 
 // Takes the notes of the connection.

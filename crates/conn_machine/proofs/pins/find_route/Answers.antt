@@ -13,7 +13,7 @@ returns-in_ok-aim_at-in-Some-target c = (
   plan_of (arc_value c.in-Some.issue),
   c.in-Request.is,
   ap issue_plan c.in-Some.is,
-  found_at c.deref.result.now (arc_value c.in-Some.issue) c.args.item.now c.args.entry.now c.args.peer c.in-Request.request _ _ c.deref.ensures c.in-Some-2.is c.in_ok-row-in-Some.ensures.row,
+  found_at c.deref.result.now (arc_value c.in-Some.issue) c.args.item.now c.args.entry.now c.args.peer c.get.result.now c.in-Request.request _ _ c.deref.ensures c.get.ensures c.in-Some-2.is c.in_ok-row-in-Some.ensures.row,
   subst (λ (t : Target). IsAim c.in_ok-aim_at-in-Some-target.field-0 t)
       (sym (ap (λ (g : Generation). (plan_of g).target c.in-Some-2.row) (sym c.deref-in-Some-2.ensures) ∙ c.in-Some-target.ensures.1)) c.in_ok-aim_at-in-Some-target.ensures,
 )
@@ -24,5 +24,5 @@ returns-in-None-2 c = (
   plan_of (arc_value c.in-Some.issue),
   c.in-Request.is,
   ap issue_plan c.in-Some.is,
-  found_at c.deref.result.now (arc_value c.in-Some.issue) c.args.item.now c.args.entry.now c.args.peer c.in-Request.request _ _ c.deref.ensures c.in-None-2.is c.in_ok-row-in-Some.ensures.row,
+  found_at c.deref.result.now (arc_value c.in-Some.issue) c.args.item.now c.args.entry.now c.args.peer c.get.result.now c.in-Request.request _ _ c.deref.ensures c.get.ensures c.in-None-2.is c.in_ok-row-in-Some.ensures.row,
 )

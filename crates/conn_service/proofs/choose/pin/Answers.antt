@@ -1,45 +1,29 @@
-use Rattle.std.proofs.Common.{refl, sym, ◌∙◌, ap, subst, ◌≡◌, ℕ, arith, ◌<◌}
+use Rattle.std.proofs.Common.{refl}
 use Rattle.std.proofs.lemmas.Result.{on_ok_weaker}
-use Rattle.conn_machine.specs.declared.parts.Current.{Current}
-use Rattle.conn_service.specs.Pins.{IsBelow}
 use Rattle.conn_service.proofs.Lists.{grew_below, no_steps}
-use Rattle.conn_service.proofs.Wents.{went_same, went_none, went_then, went_desk, keeps_same, linked_still, waits_still, reached_still}
+use Rattle.conn_service.proofs.Wents.{went_desk, reached_still}
 use Rattle.conn_service.proofs.Desks.{desk_pinned, desk_refused, seats_by, attended_by, last_held}
 use Rattle.conn_service.proofs.choose.pin.Goals as goal
 
-pub returns-in_err-reserve-clause-went : goal.returns-in_err-reserve-clause-went
-returns-in_err-reserve-clause-went g c = λ s l linked. went_none linked (keeps_same c.reserve.ensures.client c.reserve.ensures.current c.reserve.ensures.phase c.reserve.ensures.stage) c.reserve.ensures.reached
-
 pub returns-in_err-issue-clause-went : goal.returns-in_err-issue-clause-went
 returns-in_err-issue-clause-went g c = λ s l linked.
-    let keeps = keeps_same c.reserve.ensures.client c.reserve.ensures.current c.reserve.ensures.phase c.reserve.ensures.stage in
-    went_then (went_none linked keeps c.reserve.ensures.reached)
-    (went_desk (linked_still linked keeps) refl (λ is. is) (λ ex. (ex, refl)) (λ k. no_steps k) refl (desk_refused c.in_err-issue.ensures.pinned refl) (reached_still (λ steps r. r)))
+    went_desk linked refl (λ is. is) (λ ex. (ex, refl)) (λ k. no_steps k) refl (desk_refused c.in_err-issue.ensures.pinned refl) (reached_still (λ steps r. r))
 
 pub attend-attended-requires : goal.attend-attended-requires
 attend-attended-requires g c = last_held c.in_ok-issue.ensures.pinned.last
 
-pub pin-requires-2-clause-waits : goal.pin-requires-2-clause-waits
-pin-requires-2-clause-waits g c = waits_still c.reserve.ensures.phase c.reserve.ensures.stage c.requires.waits
-
 pub pin-requires-2-clause-rises : goal.pin-requires-2-clause-rises
-pin-requires-2-clause-rises g c =
-    let b = subst (λ (m : Current). IsBelow (g.S.Shared.desk c.args.shared.now).generations m.number) (sym c.reserve.ensures.current) c.requires.below in
-    grew_below _ _ _ c.in_ok-issue.ensures.pinned.grew b _ c.in_ok-issue.ensures.pinned.greatest
+pin-requires-2-clause-rises g c = grew_below _ _ _ c.in_ok-issue.ensures.pinned.grew c.requires.below _ c.in_ok-issue.ensures.pinned.greatest
 
 pub returns-in_err-pin-clause-went : goal.returns-in_err-pin-clause-went
 returns-in_err-pin-clause-went g c = λ s l linked.
-    let keeps = keeps_same c.reserve.ensures.client c.reserve.ensures.current c.reserve.ensures.phase c.reserve.ensures.stage in
-    went_then (went_none linked keeps c.reserve.ensures.reached)
-    (went_desk (linked_still linked keeps) c.pin-2.ensures.client (λ is. c.reserve.ensures.phase ∙ c.requires.waits.phase) c.pin-2.ensures.server
-    (λ k. record { quiet = refl; sound = refl }) refl (desk_pinned c.in_ok-issue.ensures.pinned (seats_by _ c.attend-attended.result c.attend-attended.ensures.attended) c.pin-2.ensures.number) c.pin-2.ensures.reached)
+    went_desk linked c.pin-2.ensures.client (λ is. c.requires.waits.phase) c.pin-2.ensures.server
+    (λ k. record { quiet = refl; sound = refl }) refl (desk_pinned c.in_ok-issue.ensures.pinned (seats_by _ c.attend-attended.result c.attend-attended.ensures.attended) c.pin-2.ensures.number) c.pin-2.ensures.reached
 
 pub returns-clause-went : goal.returns-clause-went
 returns-clause-went g c = λ s l linked.
-    let keeps = keeps_same c.reserve.ensures.client c.reserve.ensures.current c.reserve.ensures.phase c.reserve.ensures.stage in
-    went_then (went_none linked keeps c.reserve.ensures.reached)
-    (went_desk (linked_still linked keeps) c.pin-2.ensures.client (λ is. c.reserve.ensures.phase ∙ c.requires.waits.phase) c.pin-2.ensures.server
-    (λ k. record { quiet = refl; sound = refl }) refl (desk_pinned c.in_ok-issue.ensures.pinned (seats_by _ c.attend-attended.result c.attend-attended.ensures.attended) c.pin-2.ensures.number) c.pin-2.ensures.reached)
+    went_desk linked c.pin-2.ensures.client (λ is. c.requires.waits.phase) c.pin-2.ensures.server
+    (λ k. record { quiet = refl; sound = refl }) refl (desk_pinned c.in_ok-issue.ensures.pinned (seats_by _ c.attend-attended.result c.attend-attended.ensures.attended) c.pin-2.ensures.number) c.pin-2.ensures.reached
 
 pub returns-clause-attended : goal.returns-clause-attended
 returns-clause-attended g c = attended_by _ _ _ _ c.attend-attended.result c.pin-2.ensures.number c.attend-attended.ensures.attended

@@ -2,8 +2,17 @@ use Rattle.std.proofs.Common.{rules, refl, [], ◌∙◌, subst, sym, ◌≡◌}
 use Rattle.conn_machine.specs.declared.conn.Conn.{Conn}
 use Rattle.conn_service.specs.Moments.{moment}
 use Rattle.conn_service.specs.Went.{Went}
-use Rattle.conn_service.proofs.Wents.{went_then, went_same, went_note, lost_note, at_err, keeps_note, still_kept, notes_then, stands_then, told_of, no_desk}
+use Rattle.conn_service.proofs.Wents.{went_then, went_same, went_note, lost_note, at_err, not_open, keeps_note, still_kept, notes_then, stands_then, told_of, no_desk}
 use Rattle.conn_service.proofs.service.tell.Goals as goal
+
+pub returns-then-is_quiet-clause-went : goal.returns-then-is_quiet-clause-went
+returns-then-is_quiet-clause-went g c = λ desk. went_same c.requires.linked
+
+pub returns-then-is_quiet-clause-told : goal.returns-then-is_quiet-clause-told
+returns-then-is_quiet-clause-told g c = c.is_quiet.ensures.none c.if-is_quiet.true
+
+pub returns-then-is_quiet-clause-finished : goal.returns-then-is_quiet-clause-finished
+returns-then-is_quiet-clause-finished g c = λ end. absurd (not_open c.args.conn.now.phase end (c.is_quiet.ensures.open c.if-is_quiet.true))
 
 pub notes-init : goal.notes-init
 notes-init g c = record { went = λ desk. went_same c.requires.linked; lately = refl; open_ = λ opened. refl; ending = λ end. end }

@@ -6,10 +6,7 @@ use Rattle.conn_service.proofs.Calms.{counted_reset}
 use Rattle.conn_service.proofs.turn.round.Goals as goal
 
 pub pass-requires-clause-stage : goal.pass-requires-clause-stage
-pass-requires-clause-stage g c = subst IsStanding (sym c.in-Head.is) tt
-
-pub pass-requires-in-Exchange-clause-stage : goal.pass-requires-in-Exchange-clause-stage
-pass-requires-in-Exchange-clause-stage g c = subst IsStanding (sym c.in-Exchange.is) tt
+pass-requires-clause-stage g c = subst IsStanding (sym c.in-Exchange.is) tt
 
 pub pass-requires-in-Reply-clause-stage : goal.pass-requires-in-Reply-clause-stage
 pass-requires-in-Reply-clause-stage g c = subst IsStanding (sym c.in-Reply.is) tt
@@ -27,10 +24,10 @@ pub returns-in_err-dial-in-Pin-clause-went : goal.returns-in_err-dial-in-Pin-cla
 returns-in_err-dial-in-Pin-clause-went g c = went_then (c.choose.ensures.went _ _ c.requires.linked) (c.dial.ensures.went _)
 
 pub returns-in-Head-clause-went : goal.returns-in-Head-clause-went
-returns-in-Head-clause-went g c = c.pass.ensures.went _
+returns-in-Head-clause-went g c = c.listen.ensures.went _
 
 pub returns-in-Exchange-clause-went : goal.returns-in-Exchange-clause-went
-returns-in-Exchange-clause-went g c = c.pass-in-Exchange.ensures.went _
+returns-in-Exchange-clause-went g c = c.pass.ensures.went _
 
 pub returns-in-Reply-clause-went : goal.returns-in-Reply-clause-went
 returns-in-Reply-clause-went g c = c.pass-in-Reply.ensures.went _

@@ -12,11 +12,8 @@ returns-in_err-make_room-2-clause-reached c = λ steps r. reached_reserved c.arg
 pub returns-in_err-make_room-3-clause-reached : goal.returns-in_err-make_room-3-clause-reached
 returns-in_err-make_room-3-clause-reached c = λ steps r. reached_reserved c.args.self.now.input c.make_room-2.new.held c.make_room-3.new.held c.args.self.now.backs c.make_room.new.held refl c.make_room-2.ensures.items c.make_room-3.ensures.items refl c.make_room.ensures.items r
 
-pub returns-in_err-make_room-4-clause-reached : goal.returns-in_err-make_room-4-clause-reached
-returns-in_err-make_room-4-clause-reached c = λ steps r. reached_reserved c.args.self.now.input c.make_room-2.new.held c.make_room-3.new.held c.make_room-4.new.held c.make_room.new.held refl c.make_room-2.ensures.items c.make_room-3.ensures.items c.make_room-4.ensures.items c.make_room.ensures.items r
-
 pub returns-clause-reached : goal.returns-clause-reached
-returns-clause-reached c = λ steps r. reached_reserved c.make_room-5.new.held c.make_room-2.new.held c.make_room-3.new.held c.make_room-4.new.held c.make_room.new.held c.make_room-5.ensures.items c.make_room-2.ensures.items c.make_room-3.ensures.items c.make_room-4.ensures.items c.make_room.ensures.items r
+returns-clause-reached c = λ steps r. reached_reserved c.args.self.now.input c.make_room-2.new.held c.make_room-3.new.held c.make_room-4.new.held c.make_room.new.held refl c.make_room-2.ensures.items c.make_room-3.ensures.items c.make_room-4.ensures.items c.make_room.ensures.items r
 
 pub returns-in_err-make_room-clause-enabled : goal.returns-in_err-make_room-clause-enabled
 returns-in_err-make_room-clause-enabled c = still_enabled c.args.self.now _ refl refl refl refl refl refl
@@ -27,8 +24,5 @@ returns-in_err-make_room-2-clause-enabled c = still_enabled c.args.self.now _ re
 pub returns-in_err-make_room-3-clause-enabled : goal.returns-in_err-make_room-3-clause-enabled
 returns-in_err-make_room-3-clause-enabled c = still_enabled c.args.self.now _ refl refl refl refl refl refl
 
-pub returns-in_err-make_room-4-clause-enabled : goal.returns-in_err-make_room-4-clause-enabled
-returns-in_err-make_room-4-clause-enabled c = still_enabled c.args.self.now _ refl refl refl refl refl refl
-
 pub returns-clause-enabled : goal.returns-clause-enabled
-returns-clause-enabled c = still_enabled c.args.self.now _ refl refl refl refl refl c.make_room-5.ensures.len
+returns-clause-enabled c = still_enabled c.args.self.now _ refl refl refl refl refl refl
