@@ -1,7 +1,7 @@
 -- Lines that are spelled one behind the other, and the spans that cover them.
 use Rattle.std.proofs.Common.{◌≡◌, ℕ, ◌+◌, ◌-◌, ◌<◌, ◌≤◌, List, [], ◌∷◌, ◌++◌, length, take, drop, map, codes, refl, sym, ap, ◌∙◌, subst, append_assoc, length-append, arith}
 use Rattle.std.specs.List.{slice_range, flat_map}
-use Rattle.std.proofs.lemmas.List.{append-nil, map-append, take_at, drop_at, drop-append-le, take-append-le, length-drop, take_all}
+use Rattle.std.proofs.lemmas.List.{append-nil, map-append, take_at, drop_at, drop-append-le, take-append-le, length-drop, length-take, take-take}
 use Rattle.std.proofs.lemmas.List.Concat.{flat_map-append}
 use Rattle.httparse.proofs.RunLemmas.{drop_split, length-slice_range}
 use Rattle.std.proofs.lemmas.List.Elements.{All-head, All-tail, All-push, All-weaker}
@@ -11,12 +11,14 @@ use Rattle.httparse.specs.Spans.{span_bytes, header_bytes, IsWithin, IsHeaderWit
 use Rattle.head_view.specs.Lines.{Line as Field, AreWithin, lines_at}
 use Rattle.http_wire.specs.Lines.{crlf, field_text, line_text, fields_text, AreSpelled, Keeps, span_at}
 
--- a text that was added to
+-- a text that was added to begins with what it was
 pub keeps : (old more new : List ℕ) → new ≡ old ++ more → Keeps old new
 keeps old more new e = ap (take (length old)) e ∙ take_at old more (length old) refl
 
-pub keeps_same : (old new : List ℕ) → new ≡ old → Keeps old new
-keeps_same old new e = ap (take (length old)) e ∙ take_all (length old) old (omega arith)
+pub keeps_through : (a b c : List ℕ) → Keeps a b → Keeps b c → Keeps a c
+keeps_through a b c ab bc =
+    let long : length a ≤ length b = omega (arith, length-take (length a) b, ap length ab) in
+    sym (take-take (length a) (length b) c long) ∙ ap (take (length a)) bc ∙ ab
 
 -- a span within a text covers the same bytes where more follows
 same_bytes : (text more : List ℕ) (s : Span) → IsWithin (length text) s → span_bytes (text ++ more) s ≡ span_bytes text s

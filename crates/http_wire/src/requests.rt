@@ -185,8 +185,12 @@ fn request_of(
     requires framing { head.now.framing ≡ framing_by (encodings_of (lines_at buf.now lines.now)) (lengths_of (lines_at buf.now lines.now)) Framing.None }
     ensures { TakesRequest method.now target.now version (lines_at buf.now lines.now) peer result }
 {
+    let raw = path_in(target);
     let mut path = Vec::new(alloc);
-    match normalise(path_in(target), &mut path) {
+    if path.reserve(raw.len()).is_err() {
+        return Err(RequestRefused::Memory);
+    }
+    match normalise(raw, &mut path) {
         Ok(()) => match request_with(alloc, buf, lines, version, method, target, head, peer, path) {
             Ok(request) => Ok(request),
             Err(_) => Err(RequestRefused::Memory),

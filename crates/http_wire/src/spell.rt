@@ -1,13 +1,13 @@
 //! How messages are spelled, byte for byte (RFC 9112): requests to a backend, replies to a client.
 ghost use Rattle.std.specs.Prelude.{◌≡◌, ◌++◌, OnOk, OnErr, IfOk, codes};
 ghost use Rattle.std.specs.Fmt.{decimal};
-ghost use Rattle.http_wire.specs.Lines.{crlf, field_text, fields_text};
+ghost use Rattle.http_wire.specs.Lines.{Keeps, crlf, field_text, fields_text};
 ghost use Rattle.http_wire.specs.Spelling.{target_text, host_text, request_framing, request_line, request_text, reply_framing, close_text, status_line, reply_text};
 
 use crate::message::{Reply, Request};
 use body_codec::Framing;
 use px_base::{Bytes, Memory, print_decimal};
-use std::alloc::Global;
+use std::alloc::{AllocError, Global};
 
 /// As many bytes as the fixed parts of a head have at most, and the fields that frame its body.
 const FIXED_ROOM: usize = 128;
@@ -34,7 +34,7 @@ pub fn spell_request(
 ///
 /// Where memory runs out nothing is appended.
 pub fn spell_reply(
-    alloc: Global,
+    _alloc: Global,
     reply: &Reply,
     version: u8,
     close: bool,
@@ -43,8 +43,15 @@ pub fn spell_reply(
     ensures ok { OnOk result (out.new.items ≡ out.old.items ++ reply_text reply.now version close) }
     ensures err { OnErr result (out.new.items ≡ out.old.items) }
 {
-    let text = reply_head(alloc, reply, version, close)?;
-    out.extend_from_slice(text.as_slice())
+    out.reserve(reply_room(reply))?;
+    let had = out.as_slice().len();
+    match push_reply(reply, version, close, out) {
+        Ok(()) => Ok(()),
+        Err(AllocError) => {
+            out.truncate(had);
+            Err(AllocError)
+        }
+    }
 }
 
 /// The head of a request as it goes to a backend, with `Connection: close`.
@@ -85,18 +92,24 @@ fn request_room(request: &Request, host: &[u8]) -> usize {
         .saturating_add(request.lines.text().len())
 }
 
-fn reply_head(alloc: Global, reply: &Reply, version: u8, close: bool) -> Result<Vec<u8>, Memory>
-    ensures { IfOk result (λ text. text.items ≡ reply_text reply.now version close) }
+// Appends the head of a reply. Where memory runs out a part may stand at the end.
+#[tactic(auto, using(std::proofs::Common::append_assoc))]
+fn push_reply(reply: &Reply, version: u8, close: bool, out: &mut Vec<u8>) -> Result<(), Memory>
+    ensures ok { OnOk result (out.new.items ≡ out.old.items ++ reply_text reply.now version close) }
+    ensures err { OnErr result (Keeps out.old.items out.new.items) }
 {
-    let room = FIXED_ROOM
+    push_status_line(reply, out)?;
+    out.extend_from_slice(reply.lines.text())?;
+    push_reply_framing(reply.framing, version, out)?;
+    push_last(close, out)?;
+    Ok(())
+}
+
+// How many bytes the head of a reply has at most.
+fn reply_room(reply: &Reply) -> usize {
+    FIXED_ROOM
         .saturating_add(reply.reason.len())
-        .saturating_add(reply.lines.text().len());
-    let mut text = Vec::with_capacity(alloc, room)?;
-    push_status_line(reply, &mut text)?;
-    text.extend_from_slice(reply.lines.text())?;
-    push_reply_framing(reply.framing, version, &mut text)?;
-    push_last(close, &mut text)?;
-    Ok(text)
+        .saturating_add(reply.lines.text().len())
 }
 
 // Appends the request line and the field `Host`.
@@ -128,7 +141,8 @@ fn push_target(path: &[u8], query: &Option<Bytes>, out: &mut Vec<u8>) -> Result<
 
 #[tactic(auto, using(std::proofs::Common::append_assoc))]
 fn push_status_line(reply: &Reply, out: &mut Vec<u8>) -> Result<(), Memory>
-    ensures { OnOk result (out.new.items ≡ out.old.items ++ status_line reply.now) }
+    ensures ok { OnOk result (out.new.items ≡ out.old.items ++ status_line reply.now) }
+    ensures err { OnErr result (Keeps out.old.items out.new.items) }
 {
     out.extend_from_slice(b"HTTP/1.1 ")?;
     print_decimal(reply.status as u64, out)?;
@@ -149,7 +163,8 @@ fn push_request_framing(framing: Framing, out: &mut Vec<u8>) -> Result<(), Memor
 }
 
 fn push_reply_framing(framing: Framing, version: u8, out: &mut Vec<u8>) -> Result<(), Memory>
-    ensures { OnOk result (out.new.items ≡ out.old.items ++ reply_framing framing version) }
+    ensures ok { OnOk result (out.new.items ≡ out.old.items ++ reply_framing framing version) }
+    ensures err { OnErr result (Keeps out.old.items out.new.items) }
 {
     match framing {
         Framing::None => Ok(()),
@@ -174,7 +189,8 @@ fn push_reply_framing(framing: Framing, version: u8, out: &mut Vec<u8>) -> Resul
 // Appends the end of a reply's head, with `Connection: close` or without.
 #[tactic(auto, using(std::proofs::Common::append_assoc))]
 fn push_last(close: bool, out: &mut Vec<u8>) -> Result<(), Memory>
-    ensures { OnOk result (out.new.items ≡ out.old.items ++ close_text close ++ crlf) }
+    ensures ok { OnOk result (out.new.items ≡ out.old.items ++ close_text close ++ crlf) }
+    ensures err { OnErr result (Keeps out.old.items out.new.items) }
 {
     if close {
         out.extend_from_slice(b"Connection: close\r\n\r\n")
@@ -185,7 +201,8 @@ fn push_last(close: bool, out: &mut Vec<u8>) -> Result<(), Memory>
 
 #[tactic(auto, using(std::proofs::Common::append_assoc))]
 fn push_length(len: u64, out: &mut Vec<u8>) -> Result<(), Memory>
-    ensures { OnOk result (out.new.items ≡ out.old.items ++ field_text (codes "Content-Length") (decimal len)) }
+    ensures ok { OnOk result (out.new.items ≡ out.old.items ++ field_text (codes "Content-Length") (decimal len)) }
+    ensures err { OnErr result (Keeps out.old.items out.new.items) }
 {
     out.extend_from_slice(b"Content-Length: ")?;
     print_decimal(len, out)?;
@@ -193,7 +210,8 @@ fn push_length(len: u64, out: &mut Vec<u8>) -> Result<(), Memory>
 }
 
 fn push_chunked(out: &mut Vec<u8>) -> Result<(), Memory>
-    ensures { OnOk result (out.new.items ≡ out.old.items ++ field_text (codes "Transfer-Encoding") (codes "chunked")) }
+    ensures ok { OnOk result (out.new.items ≡ out.old.items ++ field_text (codes "Transfer-Encoding") (codes "chunked")) }
+    ensures err { OnErr result (Keeps out.old.items out.new.items) }
 {
     out.extend_from_slice(b"Transfer-Encoding: chunked\r\n")
 }
