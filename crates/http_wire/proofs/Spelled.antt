@@ -1,5 +1,6 @@
 -- Lines that are spelled one behind the other, and the spans that cover them.
-use Rattle.std.proofs.Common.{◌≡◌, ℕ, ◌+◌, ◌-◌, ◌<◌, ◌≤◌, List, [], ◌∷◌, ◌++◌, length, take, drop, map, codes, refl, sym, ap, ◌∙◌, subst, append_assoc, length-append, arith}
+use Rattle.std.proofs.Common.{◌≡◌, ℕ, ◌+◌, ◌-◌, ◌<◌, ◌≤◌, List, [], ◌∷◌, ◌++◌, length, take, drop, map, codes, refl, sym, ap, ◌∙◌, subst, append_assoc, length-append, arith, Result, Ok, Err}
+use Rattle.std.specs.Result.{OnErr}
 use Rattle.std.specs.List.{slice_range, flat_map}
 use Rattle.std.proofs.lemmas.List.{append-nil, map-append, take_at, drop_at, drop-append-le, take-append-le, length-drop, length-take, take-take}
 use Rattle.std.proofs.lemmas.List.Concat.{flat_map-append}
@@ -19,6 +20,11 @@ pub keeps_through : (a b c : List ℕ) → Keeps a b → Keeps b c → Keeps a c
 keeps_through a b c ab bc =
     let long : length a ≤ length b = omega (arith, length-take (length a) b, ap length ab) in
     sym (take-take (length a) (length b) c long) ∙ ap (take (length a)) bc ∙ ab
+
+-- what holds in any case holds where memory ran out
+pub when_err : {T E P : Type 0} (r : Result T E) → P → OnErr r P
+when_err (Ok x) p = tt
+when_err (Err e) p = p
 
 -- a span within a text covers the same bytes where more follows
 same_bytes : (text more : List ℕ) (s : Span) → IsWithin (length text) s → span_bytes (text ++ more) s ≡ span_bytes text s

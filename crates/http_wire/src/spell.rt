@@ -101,7 +101,7 @@ fn push_reply(reply: &Reply, version: u8, close: bool, out: &mut Vec<u8>) -> Res
     push_status_line(reply, out)?;
     out.extend_from_slice(reply.lines.text())?;
     push_reply_framing(reply.framing, version, out)?;
-    push_last(close, out)?;
+    out.extend_from_slice(last_lines(close))?;
     Ok(())
 }
 
@@ -186,16 +186,14 @@ fn push_reply_framing(framing: Framing, version: u8, out: &mut Vec<u8>) -> Resul
     }
 }
 
-// Appends the end of a reply's head, with `Connection: close` or without.
-#[tactic(auto, using(std::proofs::Common::append_assoc))]
-fn push_last(close: bool, out: &mut Vec<u8>) -> Result<(), Memory>
-    ensures ok { OnOk result (out.new.items ≡ out.old.items ++ close_text close ++ crlf) }
-    ensures err { OnErr result (Keeps out.old.items out.new.items) }
+// The end of a reply's head, with `Connection: close` or without.
+fn last_lines(close: bool) -> &'static [u8]
+    ensures { result.now ≡ close_text close ++ crlf }
 {
     if close {
-        out.extend_from_slice(b"Connection: close\r\n\r\n")
+        b"Connection: close\r\n\r\n"
     } else {
-        out.extend_from_slice(b"\r\n")
+        b"\r\n"
     }
 }
 
