@@ -1,5 +1,5 @@
 -- Heads at the front of bytes that go on.
-use Rattle.std.proofs.Common.{◌≡◌, ℕ, ◌<◌, ◌≤◌, inl, inr, List, [], ◌∷◌, ◌++◌, length, take, drop, map, refl, sym, ap, ◌∙◌, subst, arith, append_assoc, length-append, None}
+use Rattle.std.proofs.Common.{◌≡◌, ℕ, ◌<◌, ◌≤◌, inl, inr, List, [], ◌∷◌, ◌++◌, length, take, drop, refl, sym, ap, ◌∙◌, subst, arith, append_assoc, length-append, None}
 use Rattle.std.proofs.lemmas.Bool.{cases_lt}
 use Rattle.std.proofs.lemmas.List.{take-append-le, drop-append-le, take-append-drop, append-nil, length-take, length-map}
 use Rattle.std.proofs.lemmas.List.Elements.{All-nil, All-cons}
@@ -15,10 +15,8 @@ use Rattle.body_codec.specs.declared.Framing.{Framing}
 use Rattle.head_view.specs.Lines.{Line as Field, lines_at}
 use Rattle.head_view.specs.Replies.{IsHeadAt}
 use Rattle.head_view.specs.declared.reply.ReplySpans.{ReplySpans}
-use Rattle.http_wire.specs.Fields.{field_of}
 use Rattle.http_wire.specs.Framing.{IsFramed}
 use Rattle.http_wire.specs.Replies.{IsReplyOf, IsReplyFault}
-use Rattle.http_wire.specs.declared.message.Line.{Line}
 use Rattle.http_wire.specs.declared.message.Reply.{Reply}
 use Rattle.http_wire.specs.declared.replies.ReplyFault.{ReplyFault}
 use Rattle.http_wire.specs.declared.replies.ReplyFault.TheVariants as fault
@@ -74,18 +72,7 @@ reply_stays method gave more a n at = record {
   reply_is = at.reply_is;
 }
 
-abbrev line_from : Field → Line
-line_from f = record { name = f.0; value = f.1 }
-
-again : (xs : List Line) → map line_from (map field_of xs) ≡ xs
-again [] = refl
-again (x ∷ xs) = ap (λ ys. x ∷ ys) (again xs)
-
--- lines are the same by their names and values
-same_lines : (xs ys : List Line) → map field_of xs ≡ map field_of ys → xs ≡ ys
-same_lines xs ys e = sym (again xs) ∙ ap (map line_from) e ∙ again ys
-
-abbrev make : ℕ → List ℕ → List Line → Framing → Reply
+abbrev make : ℕ → List ℕ → List Field → Framing → Reply
 make status reason lines framing = record { status = status; reason = reason; lines = lines; framing = framing }
 
 -- a head has one reply
@@ -94,7 +81,7 @@ same_reply : (method : List ℕ) (status : ℕ) (reason : List ℕ) (fields : Li
 same_reply method status reason fields a b x y =
     ap (λ s. make s a.reason a.lines a.framing) (x.status_is ∙ sym y.status_is)
     ∙ ap (λ r. make b.status r a.lines a.framing) (x.reason_is ∙ sym y.reason_is)
-    ∙ ap (λ ls. make b.status b.reason ls a.framing) (same_lines a.lines b.lines (x.lines_are ∙ sym y.lines_are))
+    ∙ ap (λ ls. make b.status b.reason ls a.framing) (x.lines_are ∙ sym y.lines_are)
     ∙ ap (λ f. make b.status b.reason b.lines f) (x.framing_is ∙ sym y.framing_is)
 
 -- bytes begin with one reply at most

@@ -1,8 +1,8 @@
 //! Exchanges: replies in one piece and byte by byte, and what breaks them.
 use crate::{Back, BackCause, BackState};
 use body_codec::Framing;
-use http_wire::Request;
-use px_base::{Bytes, List, Server};
+use http_wire::{FieldLines, Request};
+use px_base::{Bytes, Server};
 use std::alloc::{AllocError, Global};
 use std::process::Abort;
 use std::test::Fail;
@@ -14,7 +14,7 @@ fn exchange(alloc: Global, port: u16) -> Result<Back, AllocError> {
         host: Bytes::from_slice(alloc, b"a.test")?,
         path: Bytes::from_slice(alloc, b"/")?,
         query: None,
-        lines: List::new(alloc),
+        lines: FieldLines::new(alloc),
         framing: Framing::None,
         version: 1,
         keep: true,

@@ -17,11 +17,17 @@ use Rattle.path_norm.specs.declared.normal.PathFault.{PathFault}
 use Rattle.path_norm.specs.declared.normal.PathFault.TheVariants as path_fault
 use Rattle.http_wire.specs.Targets.{is_target_byte, port_of, is_origin, is_absolute, ends_authority, behind_scheme, is_question, before_place, from_place, or_slash, path_and_query, path_of, is_bad_target}
 
--- values that are neither none nor one are two at least
-pub two_values : (values : List (List ℕ)) → values ≢ [] → ((v : List ℕ) → values ≢ v ∷ []) → 1 < length values
-two_values [] some never = absurd (some refl)
-two_values (v ∷ []) some never = absurd (never v refl)
-two_values (v ∷ w ∷ more) some never = omega arith
+-- a value and some more are two at least
+pub two_values : (v : List ℕ) (values more : List (List ℕ)) → values ≡ v ∷ more → more ≢ [] → 1 < length values
+two_values v values [] is some = absurd (some refl)
+two_values v values (w ∷ more) is some = omega (arith, ap length is)
+
+-- a value and none behind it are not two
+pub no_two_values : (v : List ℕ) (values more : List (List ℕ)) → values ≡ v ∷ more → more ≡ [] → 1 < length values → ⊥
+no_two_values v values more is none two = omega (arith, ap length is, ap length none, two)
+
+pub some_values : (v : List ℕ) (values more : List (List ℕ)) → values ≡ v ∷ more → values ≡ [] → ⊥
+some_values v values more is none = omega (arith, ap length is, ap length none)
 
 rooted_slash : (o : Option ℕ) (rest : List ℕ) → IsRooted (or_slash (before_place o (47 ∷ rest)))
 rooted_slash None rest = (rest, refl)

@@ -1,3 +1,4 @@
 pub mod Codings
 pub mod Heads
 pub mod Options
+pub mod Spelled

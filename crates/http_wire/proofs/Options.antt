@@ -1,28 +1,62 @@
 -- What `Connection` lines list.
-use Rattle.std.proofs.Common.{◌≡◌, ℕ, suc, ◌-◌, ◌≤◌, ◌<◌, min, List, [], ◌∷◌, length, take, drop, map, cond, Bool, true, false, ◌&&◌, codes, refl, ◌∙◌, sym, ap, subst, arith}
+use Rattle.std.proofs.Common.{◌≡◌, ℕ, suc, ◌-◌, ◌≤◌, ◌<◌, min, List, [], ◌∷◌, ◌++◌, length, take, drop, map, cond, Bool, true, false, ◌&&◌, codes, refl, ◌∙◌, sym, ap, subst, arith}
 use Rattle.std.specs.Char.{is_ascii_whitespace, to_ascii_lowercase}
 use Rattle.std.specs.List.{AllByRecursion, list_any, onto_first, prefix_len, slice_split, suffix_len}
 use Rattle.std.specs.Str.{str_eq_ignore_ascii_case, str_to_ascii_lowercase}
-use Rattle.std.proofs.lemmas.List.{length-drop, length-map, length-take}
-use Rattle.std.proofs.lemmas.List.Elements.{All-tail}
+use Rattle.std.proofs.lemmas.List.{length-drop, length-map, length-take, take_at}
+use Rattle.std.proofs.lemmas.List.Elements.{All-tail, All-take}
 use Rattle.std.proofs.lemmas.Slice.Eq.{bytes_eq-Decides}
 use Rattle.httparse.specs.declared.spans.HeaderSpan.{HeaderSpan}
-use Rattle.httparse.specs.Spans.{header_bytes, IsHeaderWithin}
+use Rattle.httparse.specs.Spans.{header_bytes, span_bytes, IsHeaderWithin}
 use Rattle.head_view.specs.Lines.{lines_at, has_name, values_of, AreWithin}
-use Rattle.http_wire.specs.Fields.{HaveSameOptions, is_comma, lists, trimmed, without_leading_blanks}
+use Rattle.http_wire.specs.Fields.{is_comma, lists, trimmed, without_leading_blanks}
 
-skip : (buf : List ℕ) (line : HeaderSpan) (rest : List HeaderSpan) → has_name (codes "Connection") (header_bytes buf line) ≡ false
-    → values_of (codes "Connection") (lines_at buf (line ∷ rest)) ≡ values_of (codes "Connection") (lines_at buf rest)
-skip buf line rest other = rw other
+-- these lines lie in the buffer, and have the same values of this name as all
+abbrev HaveSame : List ℕ → List ℕ → List HeaderSpan → List HeaderSpan → Type 0
+HaveSame buf name some all = AreWithin buf some × (values_of name (lines_at buf some) ≡ values_of name (lines_at buf all))
 
--- a line with another name is passed over
-pub options_skip : (buf : List ℕ) (left lines : List HeaderSpan) (line : HeaderSpan) (rest : List HeaderSpan) → left ≡ line ∷ rest
-    → has_name (codes "Connection") (header_bytes buf line) ≡ false
-    → AreWithin buf left × HaveSameOptions buf left lines → AreWithin buf rest × HaveSameOptions buf rest lines
-options_skip buf left lines line rest is other h =
-    let within : AreWithin buf (line ∷ rest) = subst (λ (l : List HeaderSpan). AreWithin buf l) is h.0 in
-    let same : HaveSameOptions buf (line ∷ rest) lines = subst (λ (l : List HeaderSpan). HaveSameOptions buf l lines) is h.1 in
-    (All-tail (IsHeaderWithin (length buf)) line rest within, sym (skip buf line rest other) ∙ same)
+skip : (buf name : List ℕ) (line : HeaderSpan) (rest : List HeaderSpan) → has_name name (header_bytes buf line) ≡ false
+    → values_of name (lines_at buf (line ∷ rest)) ≡ values_of name (lines_at buf rest)
+skip buf name line rest other = rw other
+
+-- a line with another name at the front is passed over
+pub named_skip : (buf name : List ℕ) (left lines : List HeaderSpan) (line : HeaderSpan) (rest : List HeaderSpan) → left ≡ line ∷ rest
+    → has_name name (header_bytes buf line) ≡ false → HaveSame buf name left lines → HaveSame buf name rest lines
+named_skip buf name left lines line rest is other h =
+    let there : HaveSame buf name (line ∷ rest) lines = subst (λ (l : List HeaderSpan). HaveSame buf name l lines) is h in
+    (All-tail (IsHeaderWithin (length buf)) line rest there.0, sym (skip buf name line rest other) ∙ there.1)
+
+here : (buf name : List ℕ) (line : HeaderSpan) (rest : List HeaderSpan) → has_name name (header_bytes buf line) ≡ true
+    → values_of name (lines_at buf (line ∷ rest)) ≡ span_bytes buf line.value ∷ values_of name (lines_at buf rest)
+here buf name line rest named = rw named
+
+-- a line with the name at the front has the first value
+pub named_here : (buf name : List ℕ) (left lines : List HeaderSpan) (line : HeaderSpan) (rest : List HeaderSpan) (value : List ℕ) → left ≡ line ∷ rest
+    → has_name name (header_bytes buf line) ≡ true → value ≡ span_bytes buf line.value → HaveSame buf name left lines
+    → AreWithin buf rest × (values_of name (lines_at buf lines) ≡ value ∷ values_of name (lines_at buf rest))
+named_here buf name left lines line rest value is named v h =
+    let there : HaveSame buf name (line ∷ rest) lines = subst (λ (l : List HeaderSpan). HaveSame buf name l lines) is h in
+    (All-tail (IsHeaderWithin (length buf)) line rest there.0,
+    sym there.1 ∙ here buf name line rest named ∙ ap (λ (x : List ℕ). x ∷ values_of name (lines_at buf rest)) (sym v))
+
+skip_last : (buf name : List ℕ) (line : HeaderSpan) (front : List HeaderSpan) → has_name name (header_bytes buf line) ≡ false
+    → values_of name (lines_at buf (front ++ line ∷ [])) ≡ values_of name (lines_at buf front)
+skip_last buf name line [] other = rw other
+skip_last buf name line (first ∷ front) other = by (has_name name (header_bytes buf first)) refl (skip_last buf name line front other)
+  where
+    by : (t : Bool) → has_name name (header_bytes buf first) ≡ t
+        → values_of name (lines_at buf (front ++ line ∷ [])) ≡ values_of name (lines_at buf front)
+        → values_of name (lines_at buf ((first ∷ front) ++ line ∷ [])) ≡ values_of name (lines_at buf (first ∷ front))
+    by true is rest = rw (is, rest)
+    by false is rest = rw (is, rest)
+
+-- and at the end
+pub named_front : (buf name : List ℕ) (left lines : List HeaderSpan) (line : HeaderSpan) (front : List HeaderSpan) → left ≡ front ++ line ∷ []
+    → has_name name (header_bytes buf line) ≡ false → HaveSame buf name left lines → HaveSame buf name front lines
+named_front buf name left lines line front is other h =
+    let there : HaveSame buf name (front ++ line ∷ []) lines = subst (λ (l : List HeaderSpan). HaveSame buf name l lines) is h in
+    (subst (λ (l : List HeaderSpan). AreWithin buf l) (take_at front (line ∷ []) (length front) refl) (All-take (IsHeaderWithin (length buf)) (length front) (front ++ line ∷ []) there.0),
+    sym (skip_last buf name line front other) ∙ there.1)
 
 -- a text without the blanks round it is no longer
 trimmed_le : (text : List ℕ) → length (trimmed text) ≤ length text

@@ -6,15 +6,10 @@ use Rattle.std.specs.Char.{is_ascii_whitespace}
 use Rattle.std.specs.Str.{str_eq_ignore_ascii_case}
 use Rattle.httparse.specs.declared.spans.HeaderSpan.{HeaderSpan}
 use Rattle.head_view.specs.Lines.{Line as Field, has_name, values_of, lines_at}
-use Rattle.http_wire.specs.declared.message.Line.{Line}
 
 -- the same bytes
 abbrev pub is_same : List ℕ → List ℕ → Bool
 is_same a b = pointwise nat_eq a b
-
--- a line's name and its value
-abbrev pub field_of : Line → Field
-field_of l = (l.name, l.value)
 
 abbrev pub without_leading_blanks : List ℕ → List ℕ
 without_leading_blanks text = drop (prefix_len is_ascii_whitespace text) text

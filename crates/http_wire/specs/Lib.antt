@@ -1,5 +1,6 @@
 pub mod Fields
 pub mod Framing
+pub mod Lines
 pub mod Own
 pub mod Replies
 pub mod Requests

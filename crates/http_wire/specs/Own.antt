@@ -3,7 +3,6 @@ use Rattle.std.specs.Prelude.{◌≡◌, ℕ, ◌==◌, ◌||◌, Bool, List, []
 use Rattle.std.specs.Fmt.{decimal}
 use Rattle.std.specs.Str.{str_to_ascii_lowercase}
 use Rattle.body_codec.specs.declared.Framing.TheVariants as framing
-use Rattle.http_wire.specs.declared.message.Line.{Line}
 use Rattle.http_wire.specs.declared.message.Reply.{Reply}
 
 -- a redirect has a location and no content
@@ -40,14 +39,10 @@ own_words status = if status == 404 then codes "page not found" else str_to_asci
 abbrev pub content_of : ℕ → List ℕ
 content_of status = decimal status ++ codes " " ++ own_words status ++ codes "\n"
 
--- a line with this name and this value
-abbrev pub IsLine : Line → List ℕ → List ℕ → Type 0
-IsLine l name value = (l.name ≡ name) × (l.value ≡ value)
-
 -- the one line and the length of an own reply: a redirect's location and no content; else text of this length
 abbrev pub IsOwnBody : ℕ → Option (List ℕ) → Reply → Type 0
-IsOwnBody status None a = (l : Line) × (a.lines ≡ l ∷ []) × IsLine l (codes "Content-Type") (codes "text/plain; charset=utf-8") × (a.framing ≡ framing.Length (length (content_of status)))
-IsOwnBody status (Some location) a = (l : Line) × (a.lines ≡ l ∷ []) × IsLine l (codes "Location") location × (a.framing ≡ framing.Length 0)
+IsOwnBody status None a = (a.lines ≡ (codes "Content-Type", codes "text/plain; charset=utf-8") ∷ []) × (a.framing ≡ framing.Length (length (content_of status)))
+IsOwnBody status (Some location) a = (a.lines ≡ (codes "Location", location) ∷ []) × (a.framing ≡ framing.Length 0)
 
 -- the own reply with this status
 pub record IsOwnReply (status : ℕ) (location : Option (List ℕ)) (a : Reply) : Type 0 where

@@ -1,10 +1,10 @@
 -- What is taken of a backend's reply.
-use Rattle.std.specs.Prelude.{◌≡◌, ◌≢◌, ℕ, ◌==◌, Bool, not, ◌&&◌, ◌||◌, List, map, codes, if◌then◌else◌, nat_le}
+use Rattle.std.specs.Prelude.{◌≡◌, ◌≢◌, ℕ, ◌==◌, Bool, not, ◌&&◌, ◌||◌, List, codes, if◌then◌else◌, nat_le}
 use Rattle.std.specs.List.{filter}
 use Rattle.body_codec.specs.declared.Framing.{Framing}
 use Rattle.body_codec.specs.declared.Framing.TheVariants as framing
 use Rattle.head_view.specs.Lines.{Line as Field, has_name}
-use Rattle.http_wire.specs.Fields.{field_of, is_same, goes_on}
+use Rattle.http_wire.specs.Fields.{is_same, goes_on}
 use Rattle.http_wire.specs.Framing.{lengths_of, encodings_of, framing_by, HasBadLength, HasBothLengths, HasBadCoding, IsFramed}
 use Rattle.http_wire.specs.declared.message.Reply.{Reply}
 use Rattle.http_wire.specs.declared.replies.ReplyFault.{ReplyFault}
@@ -39,7 +39,7 @@ reply_framing_of method status fields =
 pub record IsReplyOf (method : List ℕ) (status : ℕ) (reason : List ℕ) (fields : List Field) (a : Reply) : Type 0 where
   pub status_is : a.status ≡ status
   pub reason_is : a.reason ≡ reason
-  pub lines_are : map field_of a.lines ≡ filter (is_kept (tells_length method status) fields) fields
+  pub lines_are : a.lines ≡ filter (is_kept (tells_length method status) fields) fields
   pub framing_is : a.framing ≡ reply_framing_of method status fields
 
 -- the fault is the first whose condition holds; a switch of protocols comes before the others, and a bad head

@@ -1,5 +1,5 @@
 -- What is taken of a client's request.
-use Rattle.std.specs.Prelude.{◌≡◌, ◌≢◌, ℕ, ◌<◌, ◌==◌, Bool, false, IsTrue, not, ◌&&◌, ◌||◌, List, [], ◌∷◌, ◌++◌, length, map, take, codes, Result, MatchResult, nat_le}
+use Rattle.std.specs.Prelude.{◌≡◌, ◌≢◌, ℕ, ◌<◌, ◌==◌, Bool, false, IsTrue, not, ◌&&◌, ◌||◌, List, [], ◌∷◌, ◌++◌, length, take, codes, Result, MatchResult, nat_le}
 use Rattle.std.specs.List.{filter}
 use Rattle.std.specs.Str.{str_eq_ignore_ascii_case}
 use Rattle.ip_net.specs.declared.ip.Ip.{Ip}
@@ -9,7 +9,7 @@ use Rattle.path_norm.specs.Normal.{Normalises}
 use Rattle.body_codec.specs.declared.Framing.{Framing}
 use Rattle.body_codec.specs.declared.Framing.TheVariants as framing
 use Rattle.head_view.specs.Lines.{Line as Field, has_name, values_of}
-use Rattle.http_wire.specs.Fields.{field_of, goes_on, is_listed}
+use Rattle.http_wire.specs.Fields.{goes_on, is_listed}
 use Rattle.http_wire.specs.Framing.{lengths_of, encodings_of, framing_by, HasBadLength, HasBothLengths, HasBadCoding, IsFramed}
 use Rattle.http_wire.specs.Targets.{host_text_of, path_of, query_of, port_of, is_bad_target}
 use Rattle.http_wire.specs.declared.message.Request.{Request}
@@ -71,7 +71,7 @@ pub record IsRequestOf (method target : List ℕ) (version : ℕ) (fields : List
   pub host_is : r.host ≡ host_in target fields
   pub path_is : Normalises (path_of target) r.path
   pub query_is : r.query ≡ query_of target
-  pub lines_are : map field_of r.lines ≡ lines_for_backend peer (host_in target fields) fields
+  pub lines_are : r.lines ≡ lines_for_backend peer (host_in target fields) fields
   pub framing_is : r.framing ≡ framing_by (encodings_of fields) (lengths_of fields) framing.None
   pub version_is : r.version ≡ version
   pub keep_is : r.keep ≡ keeps version fields

@@ -1,26 +1,11 @@
 -- How messages are spelled (RFC 9112 sections 2 to 6), byte for byte.
 use Rattle.std.specs.Prelude.{ℕ, ◌==◌, Bool, List, [], ◌∷◌, ◌++◌, codes, Option, Some, None, if◌then◌else◌}
-use Rattle.std.specs.List.{flat_map}
 use Rattle.std.specs.Fmt.{decimal}
 use Rattle.body_codec.specs.declared.Framing.{Framing}
 use Rattle.body_codec.specs.declared.Framing.TheVariants as framing
-use Rattle.http_wire.specs.declared.message.Line.{Line}
+use Rattle.http_wire.specs.Lines.{crlf, field_text, fields_text}
 use Rattle.http_wire.specs.declared.message.Request.{Request}
 use Rattle.http_wire.specs.declared.message.Reply.{Reply}
-
--- the end of a line
-abbrev pub crlf : List ℕ
-crlf = 13 ∷ 10 ∷ []
-
--- a name, a colon, a space and a value
-abbrev pub field_text : List ℕ → List ℕ → List ℕ
-field_text name value = name ++ codes ": " ++ value ++ crlf
-
-abbrev pub line_text : Line → List ℕ
-line_text l = field_text l.name l.value
-
-abbrev pub lines_text : List Line → List ℕ
-lines_text lines = flat_map line_text lines
 
 -- the path, and the query behind a question mark where there is one
 abbrev pub target_text : List ℕ → Option (List ℕ) → List ℕ
@@ -44,7 +29,7 @@ request_line r = r.method ++ codes " " ++ target_text r.path r.query ++ codes " 
 -- the head that is sent to a backend, each on a connection of its own
 abbrev pub request_text : Request → List ℕ → Bool → List ℕ
 request_text r authority pass_host =
-    request_line r ++ field_text (codes "Host") (host_text r authority pass_host) ++ lines_text r.lines ++ request_framing r.framing
+    request_line r ++ field_text (codes "Host") (host_text r authority pass_host) ++ fields_text r.lines ++ request_framing r.framing
     ++ field_text (codes "Connection") (codes "close") ++ crlf
 
 -- the framing line of a reply: content without a length is chunked for a client of version 1.1, and ends with
@@ -63,4 +48,4 @@ status_line a = codes "HTTP/1.1 " ++ decimal a.status ++ codes " " ++ a.reason +
 
 -- the head that is sent to a client of this minor version, whose connection is closed after it or not
 abbrev pub reply_text : Reply → ℕ → Bool → List ℕ
-reply_text a version close = status_line a ++ lines_text a.lines ++ reply_framing a.framing version ++ close_text close ++ crlf
+reply_text a version close = status_line a ++ fields_text a.lines ++ reply_framing a.framing version ++ close_text close ++ crlf

@@ -4,12 +4,10 @@ ghost use Rattle.std.specs.List.{list_all, list_any};
 ghost use Rattle.std.specs.Str.{str_eq_ignore_ascii_case};
 ghost use Rattle.httparse.specs.Spans.{IsHeaderWithin, header_bytes};
 ghost use Rattle.head_view.specs.Lines.{AreWithin, lines_at, has_name, values_of};
-ghost use Rattle.http_wire.specs.Fields.{field_of, is_same, is_comma, trimmed, elements, lists, is_listed, is_hop_by_hop, goes_on, HaveSameOptions};
+ghost use Rattle.http_wire.specs.Fields.{is_same, is_comma, trimmed, elements, lists, is_listed, is_hop_by_hop, goes_on, HaveSameOptions};
 
-use crate::message::Line;
 use httparse::spans::HeaderSpan;
-use px_base::{Bytes, Memory, fold_equal};
-use std::alloc::Global;
+use px_base::fold_equal;
 
 /// Whether the line has this name, without case.
 pub(crate) fn is_named(buf: &[u8], line: &HeaderSpan, name: &[u8]) -> bool
@@ -19,17 +17,24 @@ pub(crate) fn is_named(buf: &[u8], line: &HeaderSpan, name: &[u8]) -> bool
     fold_equal(line.name.of(buf), name)
 }
 
-/// The value of the first line with this name.
-pub(crate) fn first_value<'a>(buf: &'a [u8], lines: &[HeaderSpan], name: &[u8]) -> Option<&'a [u8]>
+/// The value of the first line with this name, and the lines behind it.
+pub(crate) fn first_named<'a, 'b>(
+    buf: &'a [u8],
+    lines: &'b [HeaderSpan],
+    name: &[u8],
+) -> Option<(&'a [u8], &'b [HeaderSpan])>
     requires { AreWithin buf.now lines.now }
     ensures { MatchOption result
         (values_of name.now (lines_at buf.now lines.now) ≡ [])
-        (λ v. (more : List (List ℕ)) × (values_of name.now (lines_at buf.now lines.now) ≡ v.now ∷ more)) }
+        (λ first. AreWithin buf.now first.1.now
+        × (values_of name.now (lines_at buf.now lines.now) ≡ first.0.now ∷ values_of name.now (lines_at buf.now first.1.now))) }
 {
-    for line in lines {
+    let mut left = lines;
+    while let Some((line, rest)) = left.split_first() {
         if is_named(buf, line, name) {
-            return Some(line.value.of(buf));
+            return Some((line.value.of(buf), rest));
         }
+        left = rest;
     }
     None
 }
@@ -74,7 +79,7 @@ pub(crate) fn has_none(buf: &[u8], lines: &[HeaderSpan], name: &[u8]) -> bool
     requires { AreWithin buf.now lines.now }
     ensures { IsTrue result ↔ (values_of name.now (lines_at buf.now lines.now) ≡ []) }
 {
-    first_value(buf, lines, name).is_none()
+    first_named(buf, lines, name).is_none()
 }
 
 /// Whether each line with this name has this value.
@@ -146,7 +151,7 @@ fn is_option_line(buf: &[u8], line: &HeaderSpan, name: &[u8]) -> bool
     is_named(buf, line, b"Connection") && is_among(value, name)
 }
 
-/// The lines from the first `Connection` line on: those before it list nothing.
+/// The lines from the first `Connection` line to the last one: the others list nothing.
 pub(crate) fn option_lines<'a>(buf: &[u8], lines: &'a [HeaderSpan]) -> &'a [HeaderSpan]
     requires { AreWithin buf.now lines.now }
     ensures within { AreWithin buf.now result.now }
@@ -155,9 +160,25 @@ pub(crate) fn option_lines<'a>(buf: &[u8], lines: &'a [HeaderSpan]) -> &'a [Head
     let mut left = lines;
     while let Some((line, rest)) = left.split_first() {
         if is_named(buf, line, b"Connection") {
-            return left;
+            return to_last_option(buf, left);
         }
         left = rest;
+    }
+    left
+}
+
+// The lines up to the last `Connection` line.
+fn to_last_option<'a>(buf: &[u8], lines: &'a [HeaderSpan]) -> &'a [HeaderSpan]
+    requires { AreWithin buf.now lines.now }
+    ensures within { AreWithin buf.now result.now }
+    ensures same { HaveSameOptions buf.now result.now lines.now }
+{
+    let mut left = lines;
+    while let Some((line, front)) = left.split_last() {
+        if is_named(buf, line, b"Connection") {
+            return left;
+        }
+        left = front;
     }
     left
 }
@@ -206,14 +227,4 @@ fn cut_at_comma(text: &[u8]) -> Option<(&[u8], &[u8])>
 {
     let at = text.iter().position(|b| *b == b',')?;
     Some((&text[..at], &text[at + 1..]))
-}
-
-/// A copy of the line.
-pub(crate) fn line_at(alloc: Global, buf: &[u8], line: &HeaderSpan) -> Result<Line, Memory>
-    requires { IsHeaderWithin (length buf.now) line.now }
-    ensures { IfOk result (λ l. field_of l ≡ header_bytes buf.now line.now) }
-{
-    let name = Bytes::from_slice(alloc, line.name.of(buf))?;
-    let value = Bytes::from_slice(alloc, line.value.of(buf))?;
-    Ok(Line { name, value })
 }

@@ -6,7 +6,7 @@ ghost use Rattle.http_wire.specs.Fields.{elements};
 ghost use Rattle.http_wire.specs.Framing.{lengths_of, encodings_of, codings, IsLength, AreOneLength, IsChunked, EndInChunked, AreChunkedAlone, HasBadLength, HasBothLengths, HasBadCoding, IsFramingFault, IsFramed, first_length, framing_by};
 
 use crate::fields::{
-    after_comma, first_value, has_none, has_only, last_element, last_value, only_value, trim,
+    after_comma, first_named, has_none, has_only, last_element, last_value, only_value, trim,
 };
 use body_codec::Framing;
 use httparse::spans::HeaderSpan;
@@ -36,14 +36,14 @@ pub(crate) fn framing_of(
         (IsFramingFault version fields) }
 {
     let length = length_in(buf, lines)?;
-    if !is_last_chunked(buf, lines) {
-        return Err(FramingFault::BadLength);
-    }
     if has_none(buf, lines, b"Transfer-Encoding") {
         return match length {
             Some(n) => Ok(Framing::Length(n)),
             None => Ok(otherwise),
         };
+    }
+    if !is_last_chunked(buf, lines) {
+        return Err(FramingFault::BadLength);
     }
     if length.is_some() || version == 0 {
         return Err(FramingFault::BothLengths);
@@ -61,11 +61,11 @@ fn length_in(buf: &[u8], lines: &[HeaderSpan]) -> Result<Option<u64>, FramingFau
         (λ n. AreOneLength lengths × (n ≡ first_length lengths))
         (λ fault. (fault ≡ FramingFault.BadLength) × ¬ (AreOneLength lengths)) }
 {
-    let Some(value) = first_value(buf, lines, b"Content-Length") else {
+    let Some((value, rest)) = first_named(buf, lines, b"Content-Length") else {
         return Ok(None);
     };
     match length_of(value) {
-        Some(n) if has_only(buf, lines, b"Content-Length", value) => Ok(Some(n)),
+        Some(n) if has_only(buf, rest, b"Content-Length", value) => Ok(Some(n)),
         _ => Err(FramingFault::BadLength),
     }
 }

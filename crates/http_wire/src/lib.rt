@@ -3,6 +3,7 @@
 
 mod fields;
 mod framing;
+mod lines;
 mod message;
 mod own;
 mod replies;
@@ -14,7 +15,8 @@ mod targets;
 #[cfg(test)]
 mod tests;
 
-pub use message::{Line, Reply, Request};
+pub use lines::FieldLines;
+pub use message::{Reply, Request};
 pub use own::{own_content, own_reply};
 pub use replies::{ReplyFault, ReplyRefused, is_interim_status, take_reply};
 pub use requests::{HeadFault, RequestRefused, take_request};

@@ -1,13 +1,7 @@
 //! Requests and replies, without their bodies.
+use crate::lines::FieldLines;
 use body_codec::Framing;
-use px_base::{Bytes, List};
-
-/// A field line (RFC 9112 section 5): its name and its value.
-#[derive(Debug, Drop)]
-pub struct Line {
-    pub name: Bytes,
-    pub value: Bytes,
-}
+use px_base::Bytes;
 
 /// A request as it goes through the proxy.
 #[derive(Debug, Drop)]
@@ -19,7 +13,7 @@ pub struct Request {
     pub path: Bytes,
     /// What stood behind the first `?` of the target.
     pub query: Option<Bytes>,
-    pub lines: List<Line>,
+    pub lines: FieldLines,
     pub framing: Framing,
     /// The minor version: 1 for `HTTP/1.1`.
     pub version: u8,
@@ -32,6 +26,6 @@ pub struct Request {
 pub struct Reply {
     pub status: u16,
     pub reason: Bytes,
-    pub lines: List<Line>,
+    pub lines: FieldLines,
     pub framing: Framing,
 }

@@ -1,11 +1,12 @@
 //! The replies that the proxy makes by itself: errors with one line of text, and redirects.
-ghost use Rattle.std.specs.Prelude.{◌≡◌, ◌↔◌, ◌||◌, ◌++◌, ◌∷◌, [], IfOk, IsTrue, IsSome, option_map, map, codes, length};
+ghost use Rattle.std.specs.Prelude.{◌≡◌, ◌↔◌, ◌||◌, ◌++◌, ◌∷◌, [], IfOk, IsTrue, IsSome, option_map, codes, length};
 ghost use Rattle.std.specs.Str.{str_to_ascii_lowercase};
-ghost use Rattle.http_wire.specs.Own.{is_redirect, is_own_error, own_reason, own_words, content_of, IsLine, IsOwnReply};
+ghost use Rattle.http_wire.specs.Own.{is_redirect, is_own_error, own_reason, own_words, content_of, IsOwnReply};
 
-use crate::message::{Line, Reply};
+use crate::lines::FieldLines;
+use crate::message::Reply;
 use body_codec::Framing;
-use px_base::{Bytes, List, Memory, print_decimal};
+use px_base::{Bytes, Memory, print_decimal};
 use std::alloc::Global;
 
 /// The head of an own reply: with a location exactly where it is a redirect (301, 302, 307, 308).
@@ -77,32 +78,36 @@ fn error(alloc: Global, status: u16) -> Result<Reply, Memory>
     ensures { IfOk result (IsOwnReply status None) }
 {
     let content = own_content(alloc, status)?;
-    let line = line_of(alloc, b"Content-Type", b"text/plain; charset=utf-8")?;
-    reply_of(alloc, status, line, content.len() as u64)
+    let len = content.len() as u64;
+    reply_of(
+        alloc,
+        status,
+        b"Content-Type",
+        b"text/plain; charset=utf-8",
+        len,
+    )
 }
 
 fn redirect(alloc: Global, status: u16, location: &[u8]) -> Result<Reply, Memory>
     ensures { IfOk result (IsOwnReply status (Some location.now)) }
 {
-    let line = line_of(alloc, b"Location", location)?;
-    reply_of(alloc, status, line, 0)
-}
-
-fn line_of(alloc: Global, name: &[u8], value: &[u8]) -> Result<Line, Memory>
-    ensures { IfOk result (λ line. IsLine line name.now value.now) }
-{
-    let name = Bytes::from_slice(alloc, name)?;
-    let value = Bytes::from_slice(alloc, value)?;
-    Ok(Line { name, value })
+    reply_of(alloc, status, b"Location", location, 0)
 }
 
 // A reply with this one line and content of this length.
-fn reply_of(alloc: Global, status: u16, line: Line, len: u64) -> Result<Reply, Memory>
-    ensures { IfOk result (λ a. (a.status ≡ status) × (a.reason ≡ own_reason status) × (a.lines ≡ line ∷ []) × (a.framing ≡ Framing.Length len)) }
+fn reply_of(
+    alloc: Global,
+    status: u16,
+    name: &[u8],
+    value: &[u8],
+    len: u64,
+) -> Result<Reply, Memory>
+    ensures { IfOk result (λ a. (a.status ≡ status) × (a.reason ≡ own_reason status)
+        × (a.lines ≡ (name.now, value.now) ∷ []) × (a.framing ≡ Framing.Length len)) }
 {
     let reason = Bytes::from_slice(alloc, reason_of(status))?;
-    let mut lines = List::new(alloc);
-    lines.push(line)?;
+    let mut lines = FieldLines::new(alloc);
+    lines.push(name, value)?;
     Ok(Reply {
         status,
         reason,

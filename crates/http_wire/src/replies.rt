@@ -1,19 +1,20 @@
 //! Replies of backends, as they are taken from the bytes of their heads.
-ghost use Rattle.std.specs.Prelude.{◌≡◌, ◌≢◌, ℕ, IsTrue, not, IfOk, MatchResult, length, map, take};
+ghost use Rattle.std.specs.Prelude.{◌≡◌, ◌≢◌, ℕ, IsTrue, not, IfOk, MatchResult, length, take};
 ghost use Rattle.std.specs.List.{filter};
 ghost use Rattle.httparse.specs.Spans.{IsHeaderWithin, IsWithin, header_bytes, span_bytes};
 ghost use Rattle.head_view.specs.Lines.{AreWithin, lines_at};
 ghost use Rattle.head_view.specs.Replies.{IsHeadWithin};
-ghost use Rattle.http_wire.specs.Fields.{field_of, HaveSameOptions};
+ghost use Rattle.http_wire.specs.Fields.{HaveSameOptions};
 ghost use Rattle.http_wire.specs.Replies.{is_interim, is_head, has_no_body, tells_length, is_kept, reply_framing_of, IsReplyOf, IsReplyFault, HasNoFault, IfRefused};
 
-use crate::fields::{does_go_on, is_named, line_at, option_lines};
+use crate::fields::{does_go_on, is_named, option_lines};
 use crate::framing::{FramingFault, framing_of};
-use crate::message::{Line, Reply};
+use crate::lines::{FieldLines, room_of};
+use crate::message::Reply;
 use body_codec::Framing;
 use head_view::ReplySpans;
 use httparse::spans::HeaderSpan;
-use px_base::{Bytes, List, Memory};
+use px_base::{Bytes, Memory};
 use std::alloc::Global;
 
 /// What is wrong with a backend's reply.
@@ -139,21 +140,21 @@ fn reply_with(
     })
 }
 
-// Copies of the lines that go on to the client, in order.
+// The lines that go on to the client, in order.
 fn kept_lines(
     alloc: Global,
     buf: &[u8],
     lines: &[HeaderSpan],
     tells: bool,
-) -> Result<List<Line>, Memory>
+) -> Result<FieldLines, Memory>
     requires { AreWithin buf.now lines.now }
-    ensures { IfOk result (λ kept. map field_of kept ≡ filter (is_kept tells (lines_at buf.now lines.now)) (lines_at buf.now lines.now)) }
+    ensures { IfOk result (λ kept. kept ≡ filter (is_kept tells (lines_at buf.now lines.now)) (lines_at buf.now lines.now)) }
 {
     let options = option_lines(buf, lines);
-    let mut kept = List::from_vec(Vec::with_capacity(alloc, lines.len())?);
+    let mut kept = FieldLines::with_capacity(alloc, lines.len(), room_of(lines))?;
     for line in lines {
         if is_kept_line(buf, lines, options, line, tells) {
-            kept.push(line_at(alloc, buf, line)?)?;
+            kept.push_line(buf, line)?;
         }
     }
     Ok(kept)

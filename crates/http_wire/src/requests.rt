@@ -1,5 +1,5 @@
 //! Requests of clients, as they are taken from the bytes of their heads.
-ghost use Rattle.std.specs.Prelude.{◌≡◌, ◌≢◌, ◌⊎◌, ◌++◌, ◌∷◌, [], ℕ, List as ListOf, IsTrue, IfOk, OnOk, MatchResult, length, map, take};
+ghost use Rattle.std.specs.Prelude.{◌≡◌, ◌≢◌, ◌⊎◌, ◌++◌, ◌∷◌, [], ℕ, List as ListOf, IsTrue, IfOk, OnOk, MatchResult, length, take};
 ghost use Rattle.std.specs.List.{filter};
 ghost use Rattle.std.specs.Option.{option_map};
 ghost use Rattle.httparse.specs.Spans.{IsHeaderWithin, IsWithin, header_bytes, span_bytes};
@@ -9,27 +9,31 @@ ghost use Rattle.path_norm.specs.Escapes.{HasWholeEscapes};
 ghost use Rattle.path_norm.specs.Normal.{IsRooted, Normalises};
 ghost use Rattle.head_view.specs.Lines.{AreWithin, lines_at};
 ghost use Rattle.head_view.specs.Scans.{IsHeadWithin};
-ghost use Rattle.http_wire.specs.Fields.{field_of, HaveSameOptions};
+ghost use Rattle.http_wire.specs.Fields.{HaveSameOptions};
 ghost use Rattle.http_wire.specs.Framing.{encodings_of, lengths_of, framing_by, IsFramed};
 ghost use Rattle.http_wire.specs.Targets.{path_of, query_of, is_bad_target};
 ghost use Rattle.http_wire.specs.Requests.{hosts_of, first_or_empty, host_in, HasNoHost, HasTwoHosts, IsHosted, is_forwarded, is_replaced, goes_to_backend, told_fields, lines_for_backend, keeps, IsRequestOf, IsBadTarget, IsSound, IsHeadFault, TakesRequest};
 
 use crate::fields::{
-    does_go_on, has_none, is_in_connection, is_named, line_at, only_value, option_lines,
+    does_go_on, first_named, has_none, is_in_connection, is_named, option_lines,
 };
 use crate::framing::{FramingFault, framing_of};
-use crate::message::{Line, Request};
+use crate::lines::{FieldLines, room_of};
+use crate::message::Request;
 use crate::targets::{host_text, is_refused_target, path_in, port_in, query_in};
 use body_codec::Framing;
 use head_view::HeadSpans;
 use httparse::spans::HeaderSpan;
 use ip_net::{Ip, print_ip};
 use path_norm::{PathFault, normalise};
-use px_base::{Bytes, List, Memory, fold_equal, print_decimal};
+use px_base::{Bytes, Memory, fold_equal, print_decimal};
 use std::alloc::Global;
 
 /// As many lines say what the proxy knows of the client.
 const TOLD_LINES: usize = 5;
+
+/// As many bytes as those lines have at most, beside a host text.
+const TOLD_ROOM: usize = 192;
 
 /// What is wrong with the head of a request.
 #[derive(Clone, Copy, Debug, PartialEq, Eq)]
@@ -150,16 +154,17 @@ fn host_value<'a>(buf: &'a [u8], lines: &[HeaderSpan], version: u8) -> Result<&'
         (λ host. IsHosted version fields × (host.now ≡ first_or_empty (hosts_of fields)))
         (λ fault. (method target : ListOf ℕ) → IsHeadFault method target version fields fault) }
 {
-    if has_none(buf, lines, b"Host") {
+    let Some((value, rest)) = first_named(buf, lines, b"Host") else {
         return if version == 1 {
             Err(HeadFault::NoHost)
         } else {
             Ok(b"")
         };
-    }
-    match only_value(buf, lines, b"Host") {
-        Some(value) => Ok(value),
-        None => Err(HeadFault::TwoHosts),
+    };
+    if has_none(buf, rest, b"Host") {
+        Ok(value)
+    } else {
+        Err(HeadFault::TwoHosts)
     }
 }
 
@@ -180,8 +185,12 @@ fn request_of(
     requires framing { head.now.framing ≡ framing_by (encodings_of (lines_at buf.now lines.now)) (lengths_of (lines_at buf.now lines.now)) Framing.None }
     ensures { TakesRequest method.now target.now version (lines_at buf.now lines.now) peer result }
 {
+    let raw = path_in(target);
     let mut path = Vec::new(alloc);
-    match normalise(path_in(target), &mut path) {
+    if path.reserve(raw.len()).is_err() {
+        return Err(RequestRefused::Memory);
+    }
+    match normalise(raw, &mut path) {
         Ok(()) => match request_with(alloc, buf, lines, version, method, target, head, peer, path) {
             Ok(request) => Ok(request),
             Err(_) => Err(RequestRefused::Memory),
@@ -240,14 +249,14 @@ fn backend_lines(
     lines: &[HeaderSpan],
     host: &[u8],
     peer: Ip,
-) -> Result<List<Line>, Memory>
+) -> Result<FieldLines, Memory>
     requires { AreWithin buf.now lines.now }
-    ensures { IfOk result (λ all. map field_of all ≡ lines_for_backend peer host.now (lines_at buf.now lines.now)) }
+    ensures { IfOk result (λ all. all ≡ lines_for_backend peer host.now (lines_at buf.now lines.now)) }
 {
     let mut all = client_lines(alloc, buf, lines)?;
     let mut address = Vec::with_capacity(alloc, 16)?;
     push_address(alloc, peer, &mut address)?;
-    push_told(alloc, &mut all, address.as_slice(), host)?;
+    push_told(&mut all, address.as_slice(), host)?;
     Ok(all)
 }
 
@@ -276,15 +285,17 @@ fn push_dotted(a: u8, b: u8, c: u8, d: u8, out: &mut Vec<u8>) -> Result<(), Memo
     print_decimal(d as u64, out)
 }
 
-fn client_lines(alloc: Global, buf: &[u8], lines: &[HeaderSpan]) -> Result<List<Line>, Memory>
+// The client's lines that go on, with room for what is told of the client.
+fn client_lines(alloc: Global, buf: &[u8], lines: &[HeaderSpan]) -> Result<FieldLines, Memory>
     requires { AreWithin buf.now lines.now }
-    ensures { IfOk result (λ kept. map field_of kept ≡ filter (goes_to_backend (lines_at buf.now lines.now)) (lines_at buf.now lines.now)) }
+    ensures { IfOk result (λ kept. kept ≡ filter (goes_to_backend (lines_at buf.now lines.now)) (lines_at buf.now lines.now)) }
 {
     let options = option_lines(buf, lines);
-    let mut kept = List::from_vec(Vec::with_capacity(alloc, lines.len() + TOLD_LINES)?);
+    let room = room_of(lines).saturating_add(TOLD_ROOM);
+    let mut kept = FieldLines::with_capacity(alloc, lines.len() + TOLD_LINES, room)?;
     for line in lines {
         if does_go_to_backend(buf, lines, options, line) {
-            kept.push(line_at(alloc, buf, line)?)?;
+            kept.push_line(buf, line)?;
         }
     }
     Ok(kept)
@@ -324,26 +335,13 @@ fn is_of_forwarding(name: &[u8]) -> bool
 
 // Adds what the proxy says of a client with this address.
 #[tactic(auto, using(std::proofs::Common::append_assoc))]
-fn push_told(
-    alloc: Global,
-    lines: &mut List<Line>,
-    address: &[u8],
-    host: &[u8],
-) -> Result<(), Memory>
-    ensures { OnOk result (map field_of lines.new ≡ map field_of lines.old ++ told_fields address.now host.now) }
+fn push_told(lines: &mut FieldLines, address: &[u8], host: &[u8]) -> Result<(), Memory>
+    ensures { OnOk result (lines.new ≡ lines.old ++ told_fields address.now host.now) }
 {
-    push_line(alloc, lines, b"X-Forwarded-For", address)?;
-    push_line(alloc, lines, b"X-Forwarded-Host", host)?;
-    push_line(alloc, lines, b"X-Forwarded-Port", port_in(host))?;
-    push_line(alloc, lines, b"X-Forwarded-Proto", b"http")?;
-    push_line(alloc, lines, b"X-Real-Ip", address)?;
+    lines.push(b"X-Forwarded-For", address)?;
+    lines.push(b"X-Forwarded-Host", host)?;
+    lines.push(b"X-Forwarded-Port", port_in(host))?;
+    lines.push(b"X-Forwarded-Proto", b"http")?;
+    lines.push(b"X-Real-Ip", address)?;
     Ok(())
-}
-
-fn push_line(alloc: Global, lines: &mut List<Line>, name: &[u8], value: &[u8]) -> Result<(), Memory>
-    ensures { OnOk result (map field_of lines.new ≡ map field_of lines.old ++ (name.now, value.now) ∷ []) }
-{
-    let name = Bytes::from_slice(alloc, name)?;
-    let value = Bytes::from_slice(alloc, value)?;
-    lines.push(Line { name, value })
 }

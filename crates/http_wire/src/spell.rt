@@ -1,15 +1,16 @@
 //! How messages are spelled, byte for byte (RFC 9112): requests to a backend, replies to a client.
 ghost use Rattle.std.specs.Prelude.{◌≡◌, ◌++◌, OnOk, OnErr, IfOk, codes};
 ghost use Rattle.std.specs.Fmt.{decimal};
-ghost use Rattle.http_wire.specs.Spelling.{crlf, field_text, lines_text, target_text, host_text, request_framing, request_line, request_text, reply_framing, close_text, status_line, reply_text};
+ghost use Rattle.http_wire.specs.Lines.{Keeps, crlf, field_text, fields_text};
+ghost use Rattle.http_wire.specs.Spelling.{target_text, host_text, request_framing, request_line, request_text, reply_framing, close_text, status_line, reply_text};
 
-use crate::message::{Line, Reply, Request};
+use crate::message::{Reply, Request};
 use body_codec::Framing;
 use px_base::{Bytes, Memory, print_decimal};
-use std::alloc::Global;
+use std::alloc::{AllocError, Global};
 
-/// As many bytes as most heads have at most.
-const HEAD_ROOM: usize = 512;
+/// As many bytes as the fixed parts of a head have at most, and the fields that frame its body.
+const FIXED_ROOM: usize = 128;
 
 /// Appends the head of a request as it goes to a backend, with `Connection: close`.
 ///
@@ -33,7 +34,7 @@ pub fn spell_request(
 ///
 /// Where memory runs out nothing is appended.
 pub fn spell_reply(
-    alloc: Global,
+    _alloc: Global,
     reply: &Reply,
     version: u8,
     close: bool,
@@ -42,8 +43,15 @@ pub fn spell_reply(
     ensures ok { OnOk result (out.new.items ≡ out.old.items ++ reply_text reply.now version close) }
     ensures err { OnErr result (out.new.items ≡ out.old.items) }
 {
-    let text = reply_head(alloc, reply, version, close)?;
-    out.extend_from_slice(text.as_slice())
+    out.reserve(reply_room(reply))?;
+    let had = out.as_slice().len();
+    match push_reply(reply, version, close, out) {
+        Ok(()) => Ok(()),
+        Err(AllocError) => {
+            out.truncate(had);
+            Err(AllocError)
+        }
+    }
 }
 
 /// The head of a request as it goes to a backend, with `Connection: close`.
@@ -62,37 +70,59 @@ pub fn request_head(
     } else {
         authority
     };
-    let mut text = Vec::with_capacity(alloc, HEAD_ROOM)?;
-    push_request_line(request, &mut text)?;
-    push_field(b"Host", host, &mut text)?;
-    push_lines(request.lines.as_slice(), &mut text)?;
+    let mut text = Vec::with_capacity(alloc, request_room(request, host))?;
+    push_start(request, host, &mut text)?;
+    text.extend_from_slice(request.lines.text())?;
     push_request_framing(request.framing, &mut text)?;
-    push_field(b"Connection", b"close", &mut text)?;
-    push_end(&mut text)?;
+    text.extend_from_slice(b"Connection: close\r\n\r\n")?;
     Ok(text)
 }
 
-fn reply_head(alloc: Global, reply: &Reply, version: u8, close: bool) -> Result<Vec<u8>, Memory>
-    ensures { IfOk result (λ text. text.items ≡ reply_text reply.now version close) }
-{
-    let mut text = Vec::with_capacity(alloc, HEAD_ROOM)?;
-    push_status_line(reply, &mut text)?;
-    push_lines(reply.lines.as_slice(), &mut text)?;
-    push_reply_framing(reply.framing, version, &mut text)?;
-    push_close(close, &mut text)?;
-    push_end(&mut text)?;
-    Ok(text)
+// How many bytes the head of a request has at most.
+fn request_room(request: &Request, host: &[u8]) -> usize {
+    let query = match &request.query {
+        Some(query) => query.len(),
+        None => 0,
+    };
+    FIXED_ROOM
+        .saturating_add(request.method.len())
+        .saturating_add(request.path.len())
+        .saturating_add(query)
+        .saturating_add(host.len())
+        .saturating_add(request.lines.text().len())
 }
 
+// Appends the head of a reply. Where memory runs out a part may stand at the end.
 #[tactic(auto, using(std::proofs::Common::append_assoc))]
-fn push_request_line(request: &Request, out: &mut Vec<u8>) -> Result<(), Memory>
-    ensures { OnOk result (out.new.items ≡ out.old.items ++ request_line request.now) }
+fn push_reply(reply: &Reply, version: u8, close: bool, out: &mut Vec<u8>) -> Result<(), Memory>
+    ensures ok { OnOk result (out.new.items ≡ out.old.items ++ reply_text reply.now version close) }
+    ensures err { OnErr result (Keeps out.old.items out.new.items) }
+{
+    push_status_line(reply, out)?;
+    out.extend_from_slice(reply.lines.text())?;
+    push_reply_framing(reply.framing, version, out)?;
+    out.extend_from_slice(last_lines(close))?;
+    Ok(())
+}
+
+// How many bytes the head of a reply has at most.
+fn reply_room(reply: &Reply) -> usize {
+    FIXED_ROOM
+        .saturating_add(reply.reason.len())
+        .saturating_add(reply.lines.text().len())
+}
+
+// Appends the request line and the field `Host`.
+#[tactic(auto, using(std::proofs::Common::append_assoc))]
+fn push_start(request: &Request, host: &[u8], out: &mut Vec<u8>) -> Result<(), Memory>
+    ensures { OnOk result (out.new.items ≡ out.old.items ++ request_line request.now ++ field_text (codes "Host") host.now) }
 {
     out.extend_from_slice(request.method.as_slice())?;
-    out.extend_from_slice(b" ")?;
+    out.push(b' ')?;
     push_target(request.path.as_slice(), &request.query, out)?;
-    out.extend_from_slice(b" HTTP/1.1")?;
-    push_end(out)
+    out.extend_from_slice(b" HTTP/1.1\r\nHost: ")?;
+    out.extend_from_slice(host)?;
+    out.extend_from_slice(b"\r\n")
 }
 
 #[tactic(auto, using(std::proofs::Common::append_assoc))]
@@ -102,7 +132,7 @@ fn push_target(path: &[u8], query: &Option<Bytes>, out: &mut Vec<u8>) -> Result<
     out.extend_from_slice(path)?;
     match query {
         Some(query) => {
-            out.extend_from_slice(b"?")?;
+            out.push(b'?')?;
             out.extend_from_slice(query.as_slice())
         }
         None => Ok(()),
@@ -111,22 +141,14 @@ fn push_target(path: &[u8], query: &Option<Bytes>, out: &mut Vec<u8>) -> Result<
 
 #[tactic(auto, using(std::proofs::Common::append_assoc))]
 fn push_status_line(reply: &Reply, out: &mut Vec<u8>) -> Result<(), Memory>
-    ensures { OnOk result (out.new.items ≡ out.old.items ++ status_line reply.now) }
+    ensures ok { OnOk result (out.new.items ≡ out.old.items ++ status_line reply.now) }
+    ensures err { OnErr result (Keeps out.old.items out.new.items) }
 {
     out.extend_from_slice(b"HTTP/1.1 ")?;
     print_decimal(reply.status as u64, out)?;
-    out.extend_from_slice(b" ")?;
+    out.push(b' ')?;
     out.extend_from_slice(reply.reason.as_slice())?;
-    push_end(out)
-}
-
-fn push_lines(lines: &[Line], out: &mut Vec<u8>) -> Result<(), Memory>
-    ensures { OnOk result (out.new.items ≡ out.old.items ++ lines_text lines.now) }
-{
-    for line in lines {
-        push_field(line.name.as_slice(), line.value.as_slice(), out)?;
-    }
-    Ok(())
+    out.extend_from_slice(b"\r\n")
 }
 
 fn push_request_framing(framing: Framing, out: &mut Vec<u8>) -> Result<(), Memory>
@@ -141,7 +163,8 @@ fn push_request_framing(framing: Framing, out: &mut Vec<u8>) -> Result<(), Memor
 }
 
 fn push_reply_framing(framing: Framing, version: u8, out: &mut Vec<u8>) -> Result<(), Memory>
-    ensures { OnOk result (out.new.items ≡ out.old.items ++ reply_framing framing version) }
+    ensures ok { OnOk result (out.new.items ≡ out.old.items ++ reply_framing framing version) }
+    ensures err { OnErr result (Keeps out.old.items out.new.items) }
 {
     match framing {
         Framing::None => Ok(()),
@@ -163,43 +186,30 @@ fn push_reply_framing(framing: Framing, version: u8, out: &mut Vec<u8>) -> Resul
     }
 }
 
-fn push_close(close: bool, out: &mut Vec<u8>) -> Result<(), Memory>
-    ensures { OnOk result (out.new.items ≡ out.old.items ++ close_text close) }
+// The end of a reply's head, with `Connection: close` or without.
+fn last_lines(close: bool) -> &'static [u8]
+    ensures { result.now ≡ close_text close ++ crlf }
 {
     if close {
-        push_field(b"Connection", b"close", out)
+        b"Connection: close\r\n\r\n"
     } else {
-        Ok(())
+        b"\r\n"
     }
 }
 
 #[tactic(auto, using(std::proofs::Common::append_assoc))]
 fn push_length(len: u64, out: &mut Vec<u8>) -> Result<(), Memory>
-    ensures { OnOk result (out.new.items ≡ out.old.items ++ field_text (codes "Content-Length") (decimal len)) }
+    ensures ok { OnOk result (out.new.items ≡ out.old.items ++ field_text (codes "Content-Length") (decimal len)) }
+    ensures err { OnErr result (Keeps out.old.items out.new.items) }
 {
     out.extend_from_slice(b"Content-Length: ")?;
     print_decimal(len, out)?;
-    push_end(out)
+    out.extend_from_slice(b"\r\n")
 }
 
 fn push_chunked(out: &mut Vec<u8>) -> Result<(), Memory>
-    ensures { OnOk result (out.new.items ≡ out.old.items ++ field_text (codes "Transfer-Encoding") (codes "chunked")) }
+    ensures ok { OnOk result (out.new.items ≡ out.old.items ++ field_text (codes "Transfer-Encoding") (codes "chunked")) }
+    ensures err { OnErr result (Keeps out.old.items out.new.items) }
 {
-    push_field(b"Transfer-Encoding", b"chunked", out)
-}
-
-#[tactic(auto, using(std::proofs::Common::append_assoc))]
-fn push_field(name: &[u8], value: &[u8], out: &mut Vec<u8>) -> Result<(), Memory>
-    ensures { OnOk result (out.new.items ≡ out.old.items ++ field_text name.now value.now) }
-{
-    out.extend_from_slice(name)?;
-    out.extend_from_slice(b": ")?;
-    out.extend_from_slice(value)?;
-    push_end(out)
-}
-
-fn push_end(out: &mut Vec<u8>) -> Result<(), Memory>
-    ensures { OnOk result (out.new.items ≡ out.old.items ++ crlf) }
-{
-    out.extend_from_slice(b"\r\n")
+    out.extend_from_slice(b"Transfer-Encoding: chunked\r\n")
 }

@@ -2,19 +2,17 @@
 ghost use Rattle.std.specs.Prelude.{IsTrue};
 ghost use Rattle.http_wire.specs.Own.{is_own_error};
 
-use crate::{Line, Reply, Request, own_content, own_reply, spell_reply, spell_request};
+use crate::{FieldLines, Reply, Request, own_content, own_reply, spell_reply, spell_request};
 use body_codec::Framing;
-use px_base::{Bytes, List};
+use px_base::Bytes;
 use std::alloc::Global;
 use std::process::Abort;
 use std::test::Fail;
 
-fn lines_of(alloc: Global, texts: &[(&str, &str)]) -> Result<List<Line>, Fail> {
-    let mut lines = List::new(alloc);
+fn lines_of(alloc: Global, texts: &[(&str, &str)]) -> Result<FieldLines, Fail> {
+    let mut lines = FieldLines::new(alloc);
     for (name, value) in texts {
-        let name = Bytes::from_slice(alloc, name.as_bytes())?;
-        let value = Bytes::from_slice(alloc, value.as_bytes())?;
-        lines.push(Line { name, value })?;
+        lines.push(name.as_bytes(), value.as_bytes())?;
     }
     Ok(lines)
 }
@@ -22,7 +20,7 @@ fn lines_of(alloc: Global, texts: &[(&str, &str)]) -> Result<List<Line>, Fail> {
 fn request_of(
     alloc: Global,
     query: Option<Bytes>,
-    lines: List<Line>,
+    lines: FieldLines,
     framing: Framing,
 ) -> Result<Request, Fail> {
     Ok(Request {
@@ -74,7 +72,7 @@ fn requests(rt: &impl Abort, alloc: Global) -> Result<(), Fail> {
 
     // Another authority, a query and a body.
     let query = Bytes::from_slice(alloc, b"a=b?c")?;
-    let request = request_of(alloc, Some(query), List::new(alloc), Framing::Length(5))?;
+    let request = request_of(alloc, Some(query), FieldLines::new(alloc), Framing::Length(5))?;
     expect_request(
         rt,
         alloc,
@@ -103,7 +101,7 @@ fn replies(rt: &impl Abort, alloc: Global) -> Result<(), Fail> {
     let mut reply = Reply {
         status: 200,
         reason: Bytes::from_slice(alloc, b"OK")?,
-        lines: List::new(alloc),
+        lines: FieldLines::new(alloc),
         framing: Framing::Length(2),
     };
     expect_reply(

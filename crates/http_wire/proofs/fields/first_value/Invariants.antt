@@ -1,6 +1,0 @@
-use Rattle.std.proofs.Common.{◌≡◌}
-use Rattle.head_view.proofs.Values.{values_from}
-use Rattle.http_wire.proofs.fields.first_value.Given as goal
-
-abbrev pub invariant-loop-line : goal.invariant-loop-line
-invariant-loop-line l = values_from l.buf l.name l.lines 0 ≡ values_from l.buf l.name l.lines l.line-index
