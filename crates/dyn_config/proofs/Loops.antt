@@ -1,5 +1,6 @@
 -- Loops over the entries of a table, over rows and over lists, by what is left of them.
-use Rattle.std.proofs.Common.{◌≡◌, ℕ, zero, suc, ◌+◌, ◌<◌, ◌≤◌, Bool, true, false, cond, List, [], ◌∷◌, ◌++◌, map, length, drop, get_or, Option, Some, refl, sym, ap, ap₂, ◌∙◌, arith, add-one, append_assoc, append-nil, if◌then◌else◌, IsTrue, ◌↔◌}
+use Rattle.std.proofs.Common.{◌≡◌, ℕ, zero, suc, ◌+◌, ◌<◌, ◌≤◌, Bool, true, false, cond, List, [], ◌∷◌, ◌++◌, map, length, drop, get_or, Option, Some, refl, sym, ap, ap₂, ◌∙◌, arith, add-one, append_assoc, append-nil, if◌then◌else◌, IsTrue, ◌↔◌, Result, subst}
+use Rattle.std.specs.Prelude.{IfOk}
 use Rattle.std.proofs.Math.Seq.{drop-cons}
 use Rattle.std.proofs.lemmas.List.{drop_all}
 use Rattle.std.specs.List.{slice_get, fold, list_any, list_all, flat_map, filter}
@@ -15,6 +16,10 @@ use Rattle.dyn_config.specs.Readings.{first_or, value_first, value_under, text_o
 use Rattle.dyn_config.specs.Steps.{NextUnder}
 use Rattle.dyn_config.specs.declared.found.Cause.TheVariants.{Twice as twice}
 use Rattle.dyn_config.specs.Walk.{here, stops_in, row_stops, is_less, Entry, Stop, Row, under_key, same_key, lesser_key, least_key}
+
+-- What a call answers where it had memory, under another name.
+pub ok_same : {A E : Type 0} (r : Result A E) (a b : A) → a ≡ b → IfOk r (λ x. x ≡ a) → IfOk r (λ x. x ≡ b)
+ok_same r a b e h = subst (λ y. IfOk r (λ x. x ≡ y)) e h
 
 -- What is left of a list at one of its elements.
 pub drop_at : {X : Type 0} (xs : List X) (i : ℕ) (x : X) → i < length xs → x ≡ get_or xs i x → drop i xs ≡ x ∷ drop (i + 1) xs

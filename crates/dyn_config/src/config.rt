@@ -8,7 +8,7 @@ use px_base::{Bytes, List};
 
 /// The configuration of one provider. Its names are valid, rise by their bytes and are within the limits,
 /// and every value of its definitions is in its range.
-#[derive(Debug, Drop)]
+#[derive(Drop)]
 pub struct Config {
     /// At most 2,000.
     pub routers: List<(Bytes, RouterDef)>,

@@ -5,7 +5,7 @@ ghost use Rattle.std.specs.Option.{option_copied};
 ghost use Rattle.field_tree.specs.Table.{KeysRise};
 ghost use Rattle.dyn_config.specs.Schema.{configuration};
 ghost use Rattle.dyn_config.specs.Readings.{declared_under, router_of, routers_of, service_of, services_of, middleware_of, middlewares_of};
-ghost use Rattle.dyn_config.specs.Decoding.{IsTold, IsReadFrom, IsDecoded};
+ghost use Rattle.dyn_config.specs.Decoding.{told_as, IsTold, IsReadFrom, IsDecoded};
 
 use crate::found::{Cause, Fault};
 use crate::kinds::{read_middleware, read_service};
@@ -26,7 +26,7 @@ pub fn decode(alloc: Global, tree: &Tree, style: Style) -> Result<Config, Config
 {
     match check(alloc, style, Shape::Options(Table::Top), tree) {
         Err(AllocError) => Err(ConfigFault::Memory),
-        Ok(Some(fault)) => Err(public_fault(alloc, fault)),
+        Ok(Some(fault)) => Err(public_fault(alloc, &fault)),
         Ok(None) => match read_config(alloc, style, tree) {
             Err(AllocError) => Err(ConfigFault::Memory),
             Ok(config) => Ok(config),
@@ -35,20 +35,26 @@ pub fn decode(alloc: Global, tree: &Tree, style: Style) -> Result<Config, Config
 }
 
 /// The fault as it is told: its path without the dot before the first key.
-fn public_fault(alloc: Global, fault: Fault) -> ConfigFault
-    ensures { IsTold fault result }
+fn public_fault(alloc: Global, fault: &Fault) -> ConfigFault
+    ensures { IsTold fault.now result }
 {
     match Bytes::from_slice(alloc, after_first(fault.path.as_slice())) {
         Err(AllocError) => ConfigFault::Memory,
-        Ok(path) => match fault.cause {
-            Cause::Unknown => ConfigFault::Unknown { path },
-            Cause::Twice => ConfigFault::Twice { path },
-            Cause::Kind => ConfigFault::Kind { path },
-            Cause::Missing => ConfigFault::Missing { path },
-            Cause::Range => ConfigFault::Range { path },
-            Cause::BadName => ConfigFault::BadName { path },
-            Cause::TooMany => ConfigFault::TooMany { path },
-        },
+        Ok(path) => told_as(fault.cause, path),
+    }
+}
+
+fn told_as(cause: Cause, path: Bytes) -> ConfigFault
+    ensures { result ≡ told_as cause path }
+{
+    match cause {
+        Cause::Unknown => ConfigFault::Unknown { path },
+        Cause::Twice => ConfigFault::Twice { path },
+        Cause::Kind => ConfigFault::Kind { path },
+        Cause::Missing => ConfigFault::Missing { path },
+        Cause::Range => ConfigFault::Range { path },
+        Cause::BadName => ConfigFault::BadName { path },
+        Cause::TooMany => ConfigFault::TooMany { path },
     }
 }
 
@@ -107,10 +113,7 @@ fn read_routers(
 {
     match declared_under(b"routers", tree) {
         None => Ok(List::new(alloc)),
-        Some(fields) => {
-            let defs = routers_in(alloc, style, fields)?;
-            Ok(defs)
-        }
+        Some(fields) => routers_in(alloc, style, fields),
     }
 }
 
@@ -123,11 +126,23 @@ fn routers_in(
 {
     let mut defs = List::new(alloc);
     for at in 0..fields.len() {
-        let name = Bytes::from_slice(alloc, fields.key(at))?;
-        let def = read_router(alloc, style, fields.value(at))?;
-        defs.push((name, def))?;
+        let entry = router_entry(alloc, style, fields.key(at), fields.value(at))?;
+        defs.push(entry)?;
     }
     Ok(defs)
+}
+
+fn router_entry(
+    alloc: Global,
+    style: Style,
+    key: &[u8],
+    tree: &Tree,
+) -> Result<(Bytes, RouterDef), Memory>
+    ensures { IfOk result (λ entry. entry ≡ (key.now, router_of style tree.now)) }
+{
+    let name = Bytes::from_slice(alloc, key)?;
+    let def = read_router(alloc, style, tree)?;
+    Ok((name, def))
 }
 
 fn read_services(
@@ -139,10 +154,7 @@ fn read_services(
 {
     match declared_under(b"services", tree) {
         None => Ok(List::new(alloc)),
-        Some(fields) => {
-            let defs = services_in(alloc, style, fields)?;
-            Ok(defs)
-        }
+        Some(fields) => services_in(alloc, style, fields),
     }
 }
 
@@ -155,11 +167,23 @@ fn services_in(
 {
     let mut defs = List::new(alloc);
     for at in 0..fields.len() {
-        let name = Bytes::from_slice(alloc, fields.key(at))?;
-        let def = read_service(alloc, style, fields.value(at))?;
-        defs.push((name, def))?;
+        let entry = service_entry(alloc, style, fields.key(at), fields.value(at))?;
+        defs.push(entry)?;
     }
     Ok(defs)
+}
+
+fn service_entry(
+    alloc: Global,
+    style: Style,
+    key: &[u8],
+    tree: &Tree,
+) -> Result<(Bytes, ServiceDef), Memory>
+    ensures { IfOk result (λ entry. entry ≡ (key.now, service_of style tree.now)) }
+{
+    let name = Bytes::from_slice(alloc, key)?;
+    let def = read_service(alloc, style, tree)?;
+    Ok((name, def))
 }
 
 fn read_middlewares(
@@ -171,10 +195,7 @@ fn read_middlewares(
 {
     match declared_under(b"middlewares", tree) {
         None => Ok(List::new(alloc)),
-        Some(fields) => {
-            let defs = middlewares_in(alloc, style, fields)?;
-            Ok(defs)
-        }
+        Some(fields) => middlewares_in(alloc, style, fields),
     }
 }
 
@@ -187,9 +208,21 @@ fn middlewares_in(
 {
     let mut defs = List::new(alloc);
     for at in 0..fields.len() {
-        let name = Bytes::from_slice(alloc, fields.key(at))?;
-        let def = read_middleware(alloc, style, fields.value(at))?;
-        defs.push((name, def))?;
+        let entry = middleware_entry(alloc, style, fields.key(at), fields.value(at))?;
+        defs.push(entry)?;
     }
     Ok(defs)
+}
+
+fn middleware_entry(
+    alloc: Global,
+    style: Style,
+    key: &[u8],
+    tree: &Tree,
+) -> Result<(Bytes, MiddlewareDef), Memory>
+    ensures { IfOk result (λ entry. entry ≡ (key.now, middleware_of style tree.now)) }
+{
+    let name = Bytes::from_slice(alloc, key)?;
+    let def = read_middleware(alloc, style, tree)?;
+    Ok((name, def))
 }

@@ -7,7 +7,7 @@ use crate::{MiddlewareDef, RouterDef, ServiceDef};
 use px_base::{Bytes, List};
 
 /// A definition under its qualified name.
-#[derive(Debug, Drop)]
+#[derive(Drop)]
 pub struct Entry<D> {
     /// The declared name, `@` and the provider's name.
     pub name: Bytes,
@@ -18,7 +18,7 @@ pub struct Entry<D> {
 
 /// The configurations of all providers as one. Qualified names are those of their entries' providers and
 /// rise by their bytes, and every value of the definitions is in its range.
-#[derive(Debug, Drop)]
+#[derive(Drop)]
 pub struct Merged {
     pub routers: List<Entry<RouterDef>>,
     pub services: List<Entry<ServiceDef>>,

@@ -3,7 +3,7 @@
 use px_base::{Bytes, List};
 
 /// A middleware as it is declared. Absent texts and lists are empty.
-#[derive(PartialEq, Eq, Debug, Drop)]
+#[derive(PartialEq, Eq, Drop)]
 pub enum MiddlewareDef {
     AddPrefix {
         prefix: Bytes,

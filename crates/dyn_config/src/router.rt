@@ -3,7 +3,7 @@
 use px_base::{Bytes, List};
 
 /// A router as it is declared. Absent texts are empty.
-#[derive(PartialEq, Eq, Debug, Drop)]
+#[derive(PartialEq, Eq, Drop)]
 pub struct RouterDef {
     /// The entry points at which it answers; empty means all.
     pub entry_points: List<Bytes>,

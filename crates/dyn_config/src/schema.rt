@@ -4,7 +4,7 @@ ghost use Rattle.std.specs.Prelude.{◌≡◌, map, IsTrue};
 ghost use Rattle.dyn_config.specs.Shapes.{rows_of, kinds_of, row_view, table_depth, are_below};
 
 /// What is asked of a value.
-#[derive(Clone, Copy, PartialEq, Eq, Debug)]
+#[derive(Clone, Copy)]
 pub(crate) enum Shape {
     /// It is not read.
     Anything,
@@ -31,7 +31,7 @@ pub(crate) enum Shape {
 }
 
 /// Which texts an option takes.
-#[derive(Clone, Copy, PartialEq, Eq, Debug)]
+#[derive(Clone, Copy)]
 pub(crate) enum TextRange {
     Whatever,
     CookieName,
@@ -41,7 +41,7 @@ pub(crate) enum TextRange {
 }
 
 /// Which numbers an option takes.
-#[derive(Clone, Copy, PartialEq, Eq, Debug)]
+#[derive(Clone, Copy)]
 pub(crate) enum NumberRange {
     All,
     /// 0 to 2^31 - 1.
@@ -54,7 +54,7 @@ pub(crate) enum NumberRange {
     Size,
 }
 
-#[derive(Clone, Copy, PartialEq, Eq, Debug)]
+#[derive(Clone, Copy)]
 pub(crate) enum Table {
     Router,
     Cookie,
@@ -81,14 +81,14 @@ pub(crate) enum Table {
     Top,
 }
 
-#[derive(Clone, Copy, PartialEq, Eq, Debug)]
+#[derive(Clone, Copy)]
 pub(crate) enum Declared {
     Routers,
     Services,
     Middlewares,
 }
 
-#[derive(Clone, Copy, PartialEq, Eq, Debug)]
+#[derive(Clone, Copy)]
 pub(crate) enum Family {
     Services,
     Middlewares,
@@ -643,29 +643,29 @@ pub(crate) fn rows_in(table: Table) -> &'static [Row]
     ensures below { IsTrue (are_below (table_depth table) result.now) }
 {
     match table {
-        Table::Router => ROUTER.as_slice(),
-        Table::Cookie => COOKIE.as_slice(),
-        Table::Sticky => STICKY.as_slice(),
-        Table::Health => HEALTH.as_slice(),
-        Table::Server => SERVER.as_slice(),
-        Table::Balancer => BALANCER.as_slice(),
-        Table::Child => CHILD.as_slice(),
-        Table::Weighted => WEIGHTED.as_slice(),
-        Table::Mirror => MIRROR.as_slice(),
-        Table::Mirroring => MIRRORING.as_slice(),
-        Table::Failover => FAILOVER.as_slice(),
-        Table::AddPrefix => ADD_PREFIX.as_slice(),
-        Table::StripPrefix => STRIP_PREFIX.as_slice(),
-        Table::ReplacePath => REPLACE_PATH.as_slice(),
-        Table::ReplacePathRegex => REPLACE_PATH_REGEX.as_slice(),
-        Table::Headers => HEADERS.as_slice(),
-        Table::IpAllowList => IP_ALLOW_LIST.as_slice(),
-        Table::Buffering => BUFFERING.as_slice(),
-        Table::Chain => CHAIN.as_slice(),
-        Table::RedirectScheme => REDIRECT_SCHEME.as_slice(),
-        Table::RedirectRegex => REDIRECT_REGEX.as_slice(),
-        Table::Http => HTTP.as_slice(),
-        Table::Top => TOP.as_slice(),
+        Table::Router => &ROUTER,
+        Table::Cookie => &COOKIE,
+        Table::Sticky => &STICKY,
+        Table::Health => &HEALTH,
+        Table::Server => &SERVER,
+        Table::Balancer => &BALANCER,
+        Table::Child => &CHILD,
+        Table::Weighted => &WEIGHTED,
+        Table::Mirror => &MIRROR,
+        Table::Mirroring => &MIRRORING,
+        Table::Failover => &FAILOVER,
+        Table::AddPrefix => &ADD_PREFIX,
+        Table::StripPrefix => &STRIP_PREFIX,
+        Table::ReplacePath => &REPLACE_PATH,
+        Table::ReplacePathRegex => &REPLACE_PATH_REGEX,
+        Table::Headers => &HEADERS,
+        Table::IpAllowList => &IP_ALLOW_LIST,
+        Table::Buffering => &BUFFERING,
+        Table::Chain => &CHAIN,
+        Table::RedirectScheme => &REDIRECT_SCHEME,
+        Table::RedirectRegex => &REDIRECT_REGEX,
+        Table::Http => &HTTP,
+        Table::Top => &TOP,
     }
 }
 
@@ -675,7 +675,7 @@ pub(crate) fn kinds_in(family: Family) -> &'static [Row]
     ensures below { IsTrue (are_below 5 result.now) }
 {
     match family {
-        Family::Services => SERVICE_KINDS.as_slice(),
-        Family::Middlewares => MIDDLEWARE_KINDS.as_slice(),
+        Family::Services => &SERVICE_KINDS,
+        Family::Middlewares => &MIDDLEWARE_KINDS,
     }
 }

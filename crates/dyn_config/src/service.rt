@@ -3,7 +3,7 @@
 use px_base::{Bytes, List};
 
 /// A service as it is declared.
-#[derive(PartialEq, Eq, Debug, Drop)]
+#[derive(PartialEq, Eq, Drop)]
 pub enum ServiceDef {
     Balancer(BalancerDef),
     Weighted(WeightedDef),
@@ -14,7 +14,7 @@ pub enum ServiceDef {
 }
 
 /// `loadBalancer`: servers.
-#[derive(PartialEq, Eq, Debug, Drop)]
+#[derive(PartialEq, Eq, Drop)]
 pub struct BalancerDef {
     pub servers: List<ServerDef>,
     pub sticky: Option<Cookie>,
@@ -25,7 +25,7 @@ pub struct BalancerDef {
 }
 
 /// A server of a balancer.
-#[derive(PartialEq, Eq, Debug, Drop)]
+#[derive(PartialEq, Eq, Drop)]
 pub struct ServerDef {
     /// As written; it may be no URL.
     pub url: Bytes,
@@ -34,7 +34,7 @@ pub struct ServerDef {
 }
 
 /// `weighted`: services by weight.
-#[derive(PartialEq, Eq, Debug, Drop)]
+#[derive(PartialEq, Eq, Drop)]
 pub struct WeightedDef {
     pub names: List<Bytes>,
     /// One a name, each below 2^31.
@@ -43,7 +43,7 @@ pub struct WeightedDef {
 }
 
 /// `mirroring`: a service, and others that get copies of its requests.
-#[derive(PartialEq, Eq, Debug, Drop)]
+#[derive(PartialEq, Eq, Drop)]
 pub struct MirroringDef {
     pub service: Bytes,
     pub mirrors: List<Bytes>,
@@ -55,14 +55,14 @@ pub struct MirroringDef {
 }
 
 /// `failover`: a service, and another for the time when none of its servers is up.
-#[derive(PartialEq, Eq, Debug, Drop)]
+#[derive(PartialEq, Eq, Drop)]
 pub struct FailoverDef {
     pub service: Bytes,
     pub fallback: Bytes,
 }
 
 /// `sticky.cookie`: the cookie that keeps a client at its server. Absent texts are empty.
-#[derive(PartialEq, Eq, Debug, Drop)]
+#[derive(PartialEq, Eq, Drop)]
 pub struct Cookie {
     /// Empty, or a field name.
     pub name: Bytes,
@@ -77,7 +77,7 @@ pub struct Cookie {
 }
 
 /// `healthCheck`: how a server is probed.
-#[derive(PartialEq, Eq, Debug, Drop)]
+#[derive(PartialEq, Eq, Drop)]
 pub struct Health {
     /// Begins with `/`.
     pub path: Bytes,

@@ -1,15 +1,18 @@
 //! The walk over a tree: the first fault that it meets.
 
-ghost use Rattle.std.specs.Prelude.{◌≡◌, fold, None, IfOk};
+ghost use Rattle.std.specs.Prelude.{◌≡◌, fold, map, None, IfOk};
 ghost use Rattle.std.specs.List.{flat_map};
+ghost use Rattle.std.specs.List.Sorted.{IsPermutation};
 ghost use Rattle.field_tree.specs.Keys.{walk_cmp};
 ghost use Rattle.field_tree.specs.declared.values.Style.TheVariants.{Typed};
-ghost use Rattle.dyn_config.specs.Walk.{entries_in, in_entries, sooner, row_stops, names_fault, kinds_fault, first_place, numbered, list};
+ghost use Rattle.dyn_config.specs.Walk.{entries_in, in_entries, sooner, row_stops, names_fault, kinds_fault, first_place, first_of, number_stop, number_cmp, numbered, list};
 ghost use Rattle.dyn_config.specs.Shapes.{rows_of, kinds_of, limit_of, declared_check, meaning, entries_fault};
+ghost use Rattle.dyn_config.specs.Ordered.{entry_view, AreInOrder};
+ghost use Rattle.dyn_config.specs.declared.found.Order.TheVariants.{Number};
 
 use crate::found::{Cause, Fault, Found, Order, here, note, under_key, under_place};
 use crate::leaves::{flag_fault, is_empty_table, number_fault, text_fault, time_fault};
-use crate::ordered::{has_twin, in_order};
+use crate::ordered::{EntryRef, has_twin, in_order};
 use crate::ranges::is_name;
 use crate::rows::{declared_shape, kind_shape, limit};
 use crate::schema::{Declared, Family, Shape, Table, TextRange, rows_in};
@@ -36,38 +39,14 @@ pub(crate) fn check(
         Shape::Time => Ok(time_fault(alloc, style, tree)),
         Shape::Text(range) => Ok(text_fault(alloc, range, tree)),
         Shape::Number(range) => Ok(number_fault(alloc, style, range, tree)),
-        Shape::Texts => {
-            let fault = check_list(alloc, style, Shape::Text(TextRange::Whatever), tree)?;
-            Ok(fault)
-        }
-        Shape::Tables(table) => {
-            let fault = check_list(alloc, style, Shape::Options(table), tree)?;
-            Ok(fault)
-        }
-        Shape::AnyTable => {
-            let fault = check_entries(alloc, style, Shape::AnyTable, tree)?;
-            Ok(fault)
-        }
-        Shape::Lines => {
-            let fault = check_entries(alloc, style, Shape::Lines, tree)?;
-            Ok(fault)
-        }
-        Shape::Options(table) => {
-            let fault = check_entries(alloc, style, Shape::Options(table), tree)?;
-            Ok(fault)
-        }
-        Shape::Open(table) => {
-            let fault = check_entries(alloc, style, Shape::Open(table), tree)?;
-            Ok(fault)
-        }
-        Shape::Names(declared) => {
-            let fault = check_entries(alloc, style, Shape::Names(declared), tree)?;
-            Ok(fault)
-        }
-        Shape::Kinds(family) => {
-            let fault = check_entries(alloc, style, Shape::Kinds(family), tree)?;
-            Ok(fault)
-        }
+        Shape::Texts => check_list(alloc, style, Shape::Text(TextRange::Whatever), tree),
+        Shape::Tables(table) => check_list(alloc, style, Shape::Options(table), tree),
+        Shape::AnyTable => check_entries(alloc, style, Shape::AnyTable, tree),
+        Shape::Lines => check_entries(alloc, style, Shape::Lines, tree),
+        Shape::Options(table) => check_entries(alloc, style, Shape::Options(table), tree),
+        Shape::Open(table) => check_entries(alloc, style, Shape::Open(table), tree),
+        Shape::Names(declared) => check_entries(alloc, style, Shape::Names(declared), tree),
+        Shape::Kinds(family) => check_entries(alloc, style, Shape::Kinds(family), tree),
     }
 }
 
@@ -86,10 +65,7 @@ fn check_entries(
         return check_fields(alloc, style, shape, &none);
     }
     match tree.table() {
-        Some(fields) => {
-            let fault = check_fields(alloc, style, shape, fields)?;
-            Ok(fault)
-        }
+        Some(fields) => check_fields(alloc, style, shape, fields),
         None => Ok(here(alloc, Cause::Kind)),
     }
 }
@@ -104,30 +80,19 @@ fn check_fields(
     ensures { IfOk result (λ fault. fault ≡ entries_fault shape style fields.now) }
 {
     match shape {
-        Shape::Lines => {
-            let fault = check_lines(alloc, fields)?;
-            Ok(fault)
-        }
+        Shape::Lines => check_lines(alloc, fields),
         Shape::Options(table) => {
             let first = check_rows(alloc, style, table, fields)?;
             let first = note_unknown(alloc, first, table, fields)?;
-            let fault = under_key(alloc, first)?;
-            Ok(fault)
+            under_key(alloc, first)
         }
         Shape::Open(table) => {
             let first = check_rows(alloc, style, table, fields)?;
             let first = note_twins(alloc, first, table, fields)?;
-            let fault = under_key(alloc, first)?;
-            Ok(fault)
+            under_key(alloc, first)
         }
-        Shape::Names(declared) => {
-            let fault = check_names(alloc, style, declared, fields)?;
-            Ok(fault)
-        }
-        Shape::Kinds(family) => {
-            let fault = check_kinds(alloc, style, family, fields)?;
-            Ok(fault)
-        }
+        Shape::Names(declared) => check_names(alloc, style, declared, fields),
+        Shape::Kinds(family) => check_kinds(alloc, style, family, fields),
         Shape::Anything => Ok(None),
         Shape::AnyTable => Ok(None),
         Shape::Flag => Ok(None),
@@ -266,10 +231,7 @@ fn check_list(
 {
     match style {
         Style::Typed => match tree.list() {
-            Some(values) => {
-                let fault = check_values(alloc, element, values)?;
-                Ok(fault)
-            }
+            Some(values) => check_values(alloc, element, values),
             None => Ok(here(alloc, Cause::Kind)),
         },
         Style::Texts => {
@@ -277,10 +239,7 @@ fn check_list(
                 return Ok(None);
             }
             match tree.table() {
-                Some(fields) => {
-                    let fault = check_numbered(alloc, element, fields)?;
-                    Ok(fault)
-                }
+                Some(fields) => check_numbered(alloc, element, fields),
                 None => Ok(here(alloc, Cause::Kind)),
             }
         }
@@ -294,7 +253,7 @@ fn check_values(alloc: Global, element: Shape, values: &[Tree]) -> Result<Option
     for (place, value) in values.iter().enumerate() {
         match check(alloc, Style::Typed, element, value)? {
             None => {}
-            Some(fault) => return Ok(Some(under_place(alloc, place, fault)?)),
+            Some(fault) => return Ok(Some(under_place(alloc, place, &fault)?)),
         }
     }
     Ok(None)
@@ -313,15 +272,31 @@ fn check_numbered(
         return Ok(here(alloc, Cause::Kind));
     }
     let ordered = in_order(alloc, Order::Number, fields)?;
+    let first = check_numbers(alloc, element, ordered.as_slice(), fields)?;
+    under_key(alloc, first)
+}
+
+/// The first fault at a decimal, where the entries stand in the order of their numbers too.
+#[cycle(check)]
+fn check_numbers(
+    alloc: Global,
+    element: Shape,
+    ordered: &[EntryRef<'_>],
+    fields: &Fields<Tree>,
+) -> Result<Option<Found>, Memory>
+    requires all { IsPermutation fields.now (map entry_view ordered.now) }
+    requires rise { AreInOrder Number ordered.now }
+    ensures { IfOk result (λ first. first ≡ first_of number_cmp (map (number_stop (meaning element) fields.now) fields.now)) }
+{
     let mut first = None;
     for at in 0..fields.len() {
         let key = fields.key(at);
-        let fault = if has_twin(Order::Number, ordered.as_slice(), key) {
+        let fault = if has_twin(Order::Number, ordered, key) {
             here(alloc, Cause::Twice)
         } else {
             check(alloc, Style::Texts, element, fields.value(at))?
         };
         first = note(alloc, Order::Number, first, key, fault)?;
     }
-    under_key(alloc, first)
+    Ok(first)
 }

@@ -1,10 +1,11 @@
 use Rattle.std.proofs.Common.{map, ap, ◌∙◌}
 use Rattle.dyn_config.specs.Walk.{Entry}
 use Rattle.dyn_config.specs.Readings.{service_of}
+use Rattle.dyn_config.proofs.Loops.{ok_same}
 use Rattle.dyn_config.proofs.decoding.read_services.Goals as goal
 
 pub returns-in-None : goal.returns-in-None
 returns-in-None c = c.new.ensures ∙ ap (map (λ (entry : Entry). (entry.0, service_of c.args.style entry.1))) c.in-None.ensures
 
-pub returns-in_ok-defs-in-Some : goal.returns-in_ok-defs-in-Some
-returns-in_ok-defs-in-Some c = c.in_ok-defs-in-Some.ensures ∙ ap (map (λ (entry : Entry). (entry.0, service_of c.args.style entry.1))) c.in-Some.ensures
+pub returns-in-Some : goal.returns-in-Some
+returns-in-Some c = ok_same _ _ _ (ap (map (λ (entry : Entry). (entry.0, service_of c.args.style entry.1))) c.in-Some.ensures) c.services_in.ensures

@@ -5,12 +5,12 @@ use Rattle.std.specs.Str.{bytes_eq}
 use Rattle.field_tree.specs.Keys.{walk_cmp}
 use Rattle.field_tree.specs.declared.values.Style.TheVariants.{Texts}
 use Rattle.dyn_config.specs.declared.found.Cause.TheVariants.{Twice, BadName}
-use Rattle.dyn_config.specs.Walk.{Row, here, sooner, name_stop, kind_stop, named_check, number_stop, number_cmp, same_number, has_twin, least_key}
+use Rattle.dyn_config.specs.Walk.{Row, here, sooner, name_stop, kind_stop, named_check, number_stop, number_cmp, same_number, least_key}
 use Rattle.dyn_config.specs.Shapes.{kinds_of, declared_check, meaning}
 use Rattle.dyn_config.specs.Ordered.{entry_view}
 use Rattle.dyn_config.proofs.Loops.{on_any, same_there, row_one, row_two}
 use Rattle.dyn_config.proofs.Twins.{same_twins}
-use Rattle.dyn_config.proofs.walk.+check.Goals.{check_names-then-is_name+in_ok-fault, check_names-else-is_name, check_kinds-then-is_same+in_ok-fault, check_kinds-else-is_same, check_numbered-then-has_twin, check_numbered-else-has_twin+in_ok-fault}
+use Rattle.dyn_config.proofs.walk.+check.Goals.{check_names-then-is_name+in_ok-fault, check_names-else-is_name, check_kinds-then-is_same+in_ok-fault, check_kinds-else-is_same, check_numbers-then-has_twin, check_numbers-else-has_twin+in_ok-fault}
 use Rattle.dyn_config.proofs.walk.+check.Goals as goal
 
 pub check_names-loop-at-preserved : goal.check_names-loop-at-preserved
@@ -44,19 +44,18 @@ check_kinds-loop-at-preserved t c =
           ∙ ap (λ f. (key, f)) (sym (w.fault-is ∙ w.here-fault.ensures))
     ])
 
-pub check_numbered-loop-at-preserved : goal.check_numbered-loop-at-preserved
-check_numbered-loop-at-preserved t c =
+pub check_numbers-loop-at-preserved : goal.check_numbers-loop-at-preserved
+check_numbers-loop-at-preserved t c =
     let key = c.key-key.result.now in
     let asked = meaning c.args.element Texts in
-    let sorted = map entry_view c.in_ok-ordered.ordered.items in
-    let twice = ap (λ l. has_twin same_number (map entry_view l) key) c.as_slice.ensures.value ∙ same_twins same_number c.args.fields.now sorted key c.in_ok-ordered.ensures.all in
+    let twice = same_twins same_number c.args.fields.now (map entry_view c.args.ordered.now) key c.requires.all in
     let test = sym twice ∙ sym c.has_twin.ensures in
     on_any (sooner number_cmp) (number_stop (meaning c.args.element) c.args.fields.now) c.args.fields.now c.loop-at.at key _ c.loop-at.first c.in_ok-first.first c.if-has_twin.fault c.key-key.ensures c.loop-at.invariant c.in_ok-first.ensures
     (λ value at. elim c.if-has_twin.branch [
-      | check_numbered-then-has_twin w ↦
+      | check_numbers-then-has_twin w ↦
           ap (λ b. (key, if b then here Twice else asked value)) (test ∙ w.if-has_twin.true)
           ∙ ap (λ f. (key, f)) (sym (w.fault-is ∙ w.here-fault.ensures))
-      | check_numbered-else-has_twin+in_ok-fault w ↦
+      | check_numbers-else-has_twin+in_ok-fault w ↦
           ap (λ b. (key, if b then here Twice else asked value)) (test ∙ w.if-has_twin.false)
           ∙ ap (λ v. (key, asked v)) (same_there (values_of c.args.fields.now) c.loop-at.at value w.value.result.now at w.value.ensures)
           ∙ ap (λ f. (key, f)) (sym (w.fault-is ∙ w.in_ok-fault.ensures))

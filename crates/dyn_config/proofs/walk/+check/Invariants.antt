@@ -28,13 +28,16 @@ abbrev pub decreases-check_kinds : goal.decreases-check_kinds
 decreases-check_kinds l = 5 * 5 + 1
 
 abbrev pub decreases-check_list : goal.decreases-check_list
-decreases-check_list l = depth l.element * 5 + 6
+decreases-check_list l = depth l.element * 5 + 7
 
 abbrev pub decreases-check_values : goal.decreases-check_values
 decreases-check_values l = depth l.element * 5 + 5
 
 abbrev pub decreases-check_numbered : goal.decreases-check_numbered
-decreases-check_numbered l = depth l.element * 5 + 5
+decreases-check_numbered l = depth l.element * 5 + 6
+
+abbrev pub decreases-check_numbers : goal.decreases-check_numbers
+decreases-check_numbers l = depth l.element * 5 + 5
 
 abbrev pub invariant-check_rows-loop-at : goal.invariant-check_rows-loop-at
 invariant-check_rows-loop-at l = fold (sooner walk_cmp) None (flat_map (row_stops l.style l.fields) (rows_of l.fn.table)) ≡ fold (sooner walk_cmp) l.first (flat_map (row_stops l.style l.fields) (map row_view (drop l.at l.rows)))
@@ -48,5 +51,5 @@ invariant-check_kinds-loop-at l = fold (sooner walk_cmp) None (map (kind_stop (k
 abbrev pub invariant-check_values-loop-place : goal.invariant-check_values-loop-place
 invariant-check_values-loop-place l = first_place (meaning l.element) Typed 0 l.values ≡ first_place (meaning l.element) Typed l.place (drop l.place l.values)
 
-abbrev pub invariant-check_numbered-loop-at : goal.invariant-check_numbered-loop-at
-invariant-check_numbered-loop-at l = fold (sooner number_cmp) None (map (number_stop (meaning l.element) l.fields) l.fields) ≡ fold (sooner number_cmp) l.first (map (number_stop (meaning l.element) l.fields) (drop l.at l.fields))
+abbrev pub invariant-check_numbers-loop-at : goal.invariant-check_numbers-loop-at
+invariant-check_numbers-loop-at l = fold (sooner number_cmp) None (map (number_stop (meaning l.element) l.fields) l.fields) ≡ fold (sooner number_cmp) l.first (map (number_stop (meaning l.element) l.fields) (drop l.at l.fields))
