@@ -4,7 +4,7 @@ use Rattle.dyn_config.specs.declared.config.Config.{Config}
 use Rattle.dyn_config.specs.declared.merged.Merged.{Merged}
 use Rattle.file_provider.specs.Files.{IsFileConfig, WasRead}
 use Rattle.service_graph.specs.Only.{IsFirstForm}
-use Rattle.route_cmd.specs.Routes.{IsFileAlone}
+use Rattle.provider_merge.specs.Merging.{IsFileAlone}
 use Rattle.route_cmd.specs.Output.{Stops, StopsInput}
 use Rattle.route_cmd.specs.declared.answer.Stop.{Stop}
 use Rattle.route_cmd.specs.declared.answer.Stop.TheVariants.{File, Input, Memory}

@@ -14,6 +14,7 @@ use Rattle.file_provider.specs.Files.{IsFileConfig, WasRead as WasFileRead}
 use Rattle.file_provider.specs.declared.config.FileFault.{FileFault}
 use Rattle.file_provider.specs.declared.config.FileFault.TheVariants as file_fault
 use Rattle.fault_text.specs.Files.{file_fault_text}
+use Rattle.provider_merge.specs.Merging.{IsFileAlone}
 use Rattle.http_wire.specs.declared.requests.HeadFault.{HeadFault}
 use Rattle.http_wire.specs.declared.requests.HeadFault.TheVariants as fault
 use Rattle.rule_eval.specs.Truth.{Asked}
@@ -24,7 +25,7 @@ use Rattle.router_table.specs.declared.row.Row.{Row}
 use Rattle.service_graph.specs.Only.{IsOnlyServer, IsFirstForm}
 use Rattle.route_cmd.specs.declared.answer.Stop.{Stop}
 use Rattle.route_cmd.specs.declared.answer.Stop.TheVariants.{File, Input, Memory}
-use Rattle.route_cmd.specs.Routes.{IsFileAlone, AreRoutes, Refuses}
+use Rattle.route_cmd.specs.Routes.{AreRoutes, Refuses}
 use Rattle.route_cmd.specs.Requests.{HasFault, IsFaultless, IsLater, IsAsked, head_fault_name, request_text}
 
 -- a line of text

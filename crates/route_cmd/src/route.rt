@@ -8,12 +8,13 @@ ghost use Rattle.fault_text.specs.Files.{file_fault_text};
 
 use crate::answer::{Answer, Stop, make_answer};
 use crate::requests::answer_source;
-use crate::routes::{merged_of, routes_of};
+use crate::routes::routes_of;
 use dyn_config::Config;
 use fault_text::push_file_fault;
 use file_provider::{FileFault, PollFault, poll_file};
 use ip_net::Ip;
 use px_base::{Memory, Source};
+use provider_merge::merge_file;
 use rule_eval::PatternShop;
 use service_graph::is_first_form;
 use std::alloc::Global;
@@ -95,7 +96,7 @@ fn answer_config<Q: Source, S: PatternShop>(
     ensures stop { IfErr result (λ stop. (file : Option (List ℕ)) (bytes : List ℕ) → WasFileRead file bytes → IsFileConfig bytes (Ok config)
         → Stops file ⊥ (Rose (Q.faults input.old) (Q.faults input.new)) stop) }
 {
-    let merged = merged_of(alloc, config)?;
+    let merged = merge_file(alloc, config)?;
     if !is_first_form(alloc, &merged)? {
         return Ok(make_answer(alloc, 3, b"config Later\n")?);
     }
