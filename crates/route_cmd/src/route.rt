@@ -1,7 +1,7 @@
 //! The command.
 ghost use Rattle.std.specs.Prelude.{◌≡◌, ◌≢◌, ℕ, List, Option, Ok, true, IsTrue, ◌↔◌, IfOk, IfErr};
 ghost use Rattle.px_base.specs.Bytes.{Rose};
-ghost use Rattle.file_provider.specs.Files.{IsFileConfig, WasRead as WasFileRead};
+ghost use Rattle.file_provider.specs.Files.{IsFileConfig, WasRead, file_limit};
 ghost use Rattle.file_provider.specs.declared.config.FileFault.TheVariants.{Memory as NoMemory};
 ghost use Rattle.route_cmd.specs.Output.{RouteOutput, Stops, line};
 ghost use Rattle.fault_text.specs.Files.{file_fault_text};
@@ -89,11 +89,11 @@ fn answer_config<Q: Source, S: PatternShop>(
     input: &mut Q,
     shop: &mut S,
 ) -> Result<Answer, Stop>
-    ensures told { IfOk result (λ a. (file : Option (List ℕ)) (bytes : List ℕ) → WasFileRead file bytes → IsFileConfig bytes (Ok config)
+    ensures told { IfOk result (λ a. (file : Option (List ℕ)) (bytes : List ℕ) → WasRead file file_limit bytes → IsFileConfig bytes (Ok config)
         → RouteOutput entry.now peer (S.refusals shop.old) (S.refusals shop.new) file (Q.left input.old) a.status a.text.items) }
     ensures end { IfOk result (λ a. a.status ≡ 0 → Q.ended input.new ≡ true) }
     ensures apart { IfOk result (λ a. (a.status ≢ 5) × (a.status ≢ 6)) }
-    ensures stop { IfErr result (λ stop. (file : Option (List ℕ)) (bytes : List ℕ) → WasFileRead file bytes → IsFileConfig bytes (Ok config)
+    ensures stop { IfErr result (λ stop. (file : Option (List ℕ)) (bytes : List ℕ) → WasRead file file_limit bytes → IsFileConfig bytes (Ok config)
         → Stops file ⊥ (Rose (Q.faults input.old) (Q.faults input.new)) stop) }
 {
     let merged = merge_file(alloc, config)?;
