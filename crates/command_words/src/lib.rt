@@ -1,6 +1,7 @@
-//! The words that the program is called with, and the commands that they are.
+//! The words that the program is called with, the commands that they are, and what a command answers.
 #![tactic(auto)]
 
+mod answer;
 mod command;
 mod cuts;
 mod kind;
@@ -14,5 +15,6 @@ mod sorting;
 #[cfg(test)]
 mod tests;
 
+pub use answer::{Answer, make_answer};
 pub use command::{Command, RoutePlan, WordFault};
 pub use read::read_words;

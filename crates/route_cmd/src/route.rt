@@ -6,15 +6,16 @@ ghost use Rattle.file_provider.specs.declared.config.FileFault.TheVariants.{Memo
 ghost use Rattle.route_cmd.specs.Output.{RouteOutput, Stops, line};
 ghost use Rattle.fault_text.specs.Files.{file_fault_text};
 
-use crate::answer::{Answer, Stop, make_answer};
+use crate::answer::Stop;
 use crate::requests::answer_source;
 use crate::routes::routes_of;
+use command_words::{Answer, make_answer};
 use dyn_config::Config;
 use fault_text::push_file_fault;
 use file_provider::{FileFault, PollFault, poll_file};
 use ip_net::Ip;
-use px_base::{Memory, Source};
 use provider_merge::merge_file;
+use px_base::{Memory, Source};
 use rule_eval::PatternShop;
 use service_graph::is_first_form;
 use std::alloc::Global;
