@@ -24,15 +24,23 @@ IsFileConfig bytes (Err (file.Config fault)) = (tree : Tree) × IsTreeOf bytes t
 IsFileConfig bytes (Err file.NotToml) = (document : Members) → ¬ (IsDocument bytes document)
 IsFileConfig bytes (Err file.Memory) = Unit {0}
 
--- these are all the bytes that the source had left, where it tells that, and they keep the limit
-pub record WasRead (left : Option (List ℕ)) (bytes : List ℕ) : Type 0 where
+-- a source gave these bytes to its end, and they keep the limit: all that it had left, where it tells that
+pub record WasRead (left : Option (List ℕ)) (limit : ℕ) (bytes : List ℕ) : Type 0 where
   pub all : IfSome left (λ had. bytes ≡ had)
-  pub fits : length bytes ≤ 1048576
+  pub fits : length bytes ≤ limit
+
+-- a source had more left than the limit, where it tells that
+abbrev pub IsOver : Option (List ℕ) → ℕ → Type 0
+IsOver left limit = IfSome left (λ had. limit < length had)
+
+-- how many bytes a configuration file may have
+abbrev pub file_limit : ℕ
+file_limit = 1048576
 
 -- the answer on all the bytes, which were read to the source's end; the source failed; or it gave more than 1 MiB
 abbrev pub IsPolled : Option (List ℕ) → (ended failed : Type 0) → Result Config PollFault → Type 0
-IsPolled left ended failed (Ok config) = (bytes : List ℕ) × WasRead left bytes × ended × IsFileConfig bytes (Ok config)
-IsPolled left ended failed (Err (poll.File fault)) = (bytes : List ℕ) × WasRead left bytes × ended × IsFileConfig bytes (Err fault)
+IsPolled left ended failed (Ok config) = (bytes : List ℕ) × WasRead left file_limit bytes × ended × IsFileConfig bytes (Ok config)
+IsPolled left ended failed (Err (poll.File fault)) = (bytes : List ℕ) × WasRead left file_limit bytes × ended × IsFileConfig bytes (Err fault)
 IsPolled left ended failed (Err poll.ReadFault) = failed
-IsPolled left ended failed (Err poll.TooLong) = IfSome left (λ had. 1048576 < length had)
+IsPolled left ended failed (Err poll.TooLong) = IsOver left file_limit
 IsPolled left ended failed (Err poll.Memory) = Unit {0}

@@ -1,5 +1,5 @@
 -- What the providers declare, as one.
-use Rattle.std.specs.Prelude.{ℕ, List, ◌++◌, map}
+use Rattle.std.specs.Prelude.{◌≡◌, ℕ, List, [], ◌++◌, map}
 use Rattle.std.specs.List.Sorted.{IsPermutation}
 use Rattle.dyn_config.specs.Names.{qualified}
 use Rattle.dyn_config.specs.declared.config.Config.{Config}
@@ -22,3 +22,13 @@ pub record IsMerged (file consul : Config) (m : Merged) : Type 0 where
   pub routers : IsUnion file.routers consul.routers m.routers
   pub services : IsUnion file.services consul.services m.services
   pub middlewares : IsUnion file.middlewares consul.middlewares m.middlewares
+
+-- it declares nothing
+pub record DeclaresNothing (config : Config) : Type 0 where
+  pub routers : config.routers ≡ []
+  pub services : config.services ≡ []
+  pub middlewares : config.middlewares ≡ []
+
+-- what the file declares, and no other provider anything
+abbrev pub IsFileAlone : Config → Merged → Type 0
+IsFileAlone file m = (none : Config) × DeclaresNothing none × IsMerged file none m

@@ -4,10 +4,11 @@ use Rattle.std.specs.Io.KnownBytes.{Appends, Keeps}
 use Rattle.px_base.specs.Bytes.{AppendsLess}
 use Rattle.dyn_config.specs.declared.merged.Merged.{Merged}
 use Rattle.service_graph.specs.Only.{IsFirstForm}
+use Rattle.file_provider.specs.Files.{WasRead, IsOver}
 use Rattle.command_words.specs.Commands.{IsCommand}
 use Rattle.command_words.specs.declared.command.Command.TheVariants.{Route, Replay}
 use Rattle.command_words.specs.declared.command.RoutePlan.{RoutePlan}
-use Rattle.route_cmd.specs.Output.{line, RouteOutput, IsConfigured, WasRead, IsOver}
+use Rattle.route_cmd.specs.Output.{line, RouteOutput, IsConfigured}
 use Rattle.route_cmd.specs.declared.answer.Stop.{Stop}
 use Rattle.route_cmd.specs.declared.answer.Stop.TheVariants.{File, Input, Memory}
 use Rattle.replay_cmd.specs.Replays.{Replayed}

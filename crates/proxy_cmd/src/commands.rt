@@ -6,10 +6,10 @@ ghost use Rattle.replay_cmd.specs.Replays.{Replayed};
 ghost use Rattle.proxy_cmd.specs.Output.{Output, ReplayOutput, Unread, StopsReplay, StopsWords, Ends};
 
 use crate::usage::usage_answer;
-use command_words::{Command, RoutePlan, WordFault, read_words};
+use command_words::{Answer, Command, RoutePlan, WordFault, make_answer, read_words};
 use px_base::{Memory, ReadFault, Sink, Source, read_all, write_all};
 use replay_cmd::replay;
-use route_cmd::{Answer, Stop, answer_route};
+use route_cmd::{Stop, answer_route};
 use rule_eval::PatternShop;
 use std::alloc::Global;
 
@@ -120,27 +120,15 @@ fn answer_script<Q: Source, S: PatternShop>(
     ensures stop { IfErr result (StopsReplay (Rose (Q.faults input.old) (Q.faults input.new))) }
 {
     match read_all(alloc, input, MAX_SCRIPT) {
-        Ok(script) => Ok(replayed(alloc, script.as_slice(), shop)?),
+        Ok(script) => Ok(replay(alloc, script.as_slice(), shop)?),
         Err(ReadFault::TooLong) => Ok(too_long(alloc)?),
         Err(ReadFault::Failed) => Err(Stop::Input),
         Err(ReadFault::Memory) => Err(Stop::Memory),
     }
 }
 
-fn replayed<S: PatternShop>(alloc: Global, script: &[u8], shop: &mut S) -> Result<Answer, Memory>
-    ensures told { IfOk result (λ a. Replayed script.now a.status a.text.items) }
-    ensures apart { IfOk result (λ a. (a.status ≢ 5) × (a.status ≢ 6)) }
-{
-    let answer = replay(alloc, script, shop)?;
-    Ok(Answer {
-        status: answer.status,
-        text: answer.text,
-    })
-}
-
 fn too_long(alloc: Global) -> Result<Answer, Memory>
     ensures { IfOk result (λ a. (a.status ≡ 8) × (a.text.items ≡ line (codes "too long"))) }
 {
-    let text = Vec::from_slice(alloc, b"too long\n")?;
-    Ok(Answer { status: 8, text })
+    make_answer(alloc, 8, b"too long\n")
 }

@@ -2,16 +2,15 @@
 ghost use Rattle.std.specs.Prelude.{◌≡◌, IfOk};
 ghost use Rattle.proxy_cmd.specs.Output.{usage_text};
 
+use command_words::{Answer, make_answer};
 use px_base::Memory;
-use route_cmd::Answer;
 use std::alloc::Global;
 
 // The answer to words that are no command here.
 pub(crate) fn usage_answer(alloc: Global) -> Result<Answer, Memory>
     ensures { IfOk result (λ a. (a.status ≡ 2) × (a.text.items ≡ usage_text)) }
 {
-    let text = Vec::from_slice(alloc, usage())?;
-    Ok(Answer { status: 2, text })
+    make_answer(alloc, 2, usage())
 }
 
 fn usage() -> &'static [u8]

@@ -1,11 +1,11 @@
 -- The configuration of a script.
-use Rattle.std.specs.Prelude.{◌≡◌, ℕ, List, [], Ok, Err, Result}
+use Rattle.std.specs.Prelude.{ℕ, List, Ok, Err}
 use Rattle.dyn_config.specs.declared.config.Config.{Config}
 use Rattle.dyn_config.specs.declared.merged.Merged.{Merged}
 use Rattle.file_provider.specs.Files.{IsFileConfig}
 use Rattle.file_provider.specs.declared.config.FileFault.{FileFault}
 use Rattle.file_provider.specs.declared.config.FileFault.TheVariants as file
-use Rattle.provider_merge.specs.Merging.{IsMerged}
+use Rattle.provider_merge.specs.Merging.{DeclaresNothing, IsFileAlone}
 use Rattle.service_graph.specs.Only.{IsFirstForm}
 use Rattle.generation.specs.Built.{IsOf}
 use Rattle.generation.specs.declared.generation.Generation.{Generation}
@@ -14,27 +14,17 @@ use Rattle.replay_cmd.specs.declared.why.Failure.TheVariants as failure
 use Rattle.replay_cmd.specs.declared.why.Why.{Why}
 use Rattle.replay_cmd.specs.declared.why.Why.TheVariants as why
 
--- it declares nothing
-pub record IsEmpty (config : Config) : Type 0 where
-  pub routers : config.routers ≡ []
-  pub services : config.services ≡ []
-  pub middlewares : config.middlewares ≡ []
-
--- the configuration of a file alone
-abbrev pub IsAlone : Config → Merged → Type 0
-IsAlone config m = (other : Config) × IsEmpty other × IsMerged config other m
-
 -- the text declares nothing
 abbrev pub DeclaresNone : List ℕ → Type 0
-DeclaresNone text = (config : Config) × IsFileConfig text (Ok config) × IsEmpty config
+DeclaresNone text = (config : Config) × IsFileConfig text (Ok config) × DeclaresNothing config
 
 -- the text is this configuration under this number
 pub record IsGenerationOf (number : ℕ) (text : List ℕ) (g : Generation) : Type 0 where
   pub config : Config
   pub is_config : IsFileConfig text (Ok config)
-  pub some : ¬ (IsEmpty config)
+  pub some : ¬ (DeclaresNothing config)
   pub merged : Merged
-  pub is_merged : IsAlone config merged
+  pub is_merged : IsFileAlone config merged
   pub form : IsFirstForm merged
   pub is_of : IsOf number merged g
 
@@ -47,7 +37,7 @@ IsFault file.Memory = ⊥
 -- why the text is no configuration that is served: a fault, or its kind
 abbrev pub IsUnserved : List ℕ → Why → Type 0
 IsUnserved text why.Config = (fault : FileFault) × IsFault fault × IsFileConfig text (Err fault)
-IsUnserved text why.Later = (config : Config) × (m : Merged) × IsFileConfig text (Ok config) × IsAlone config m × (¬ (IsFirstForm m))
+IsUnserved text why.Later = (config : Config) × (m : Merged) × IsFileConfig text (Ok config) × IsFileAlone config m × (¬ (IsFirstForm m))
 IsUnserved text _ = ⊥
 
 abbrev pub FailsRead : List ℕ → Failure → Type 0

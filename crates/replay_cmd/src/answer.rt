@@ -6,16 +6,10 @@ use crate::cut::is_blank;
 use crate::output::output_of;
 use crate::run::Run;
 use crate::why::{Failure, refusal_of};
+use command_words::Answer;
 use px_base::Memory;
 use rule_eval::PatternShop;
 use std::alloc::{AllocError, Global};
-
-/// A status and the text that goes with it.
-#[derive(Debug, Drop)]
-pub struct Answer {
-    pub status: u8,
-    pub text: Vec<u8>,
-}
 
 /// What a system makes of a script.
 ///

@@ -1,14 +1,13 @@
 //! The configuration of a script.
-ghost use Rattle.std.specs.Prelude.{◌≡◌, ◌↔◌, IsTrue, Ok, MatchResult, MatchOption};
+ghost use Rattle.std.specs.Prelude.{◌≡◌, Ok, MatchResult, MatchOption};
 ghost use Rattle.file_provider.specs.Files.{IsFileConfig};
-ghost use Rattle.replay_cmd.specs.Configs.{IsEmpty, DeclaresNone, IsGenerationOf, FailsRead};
+ghost use Rattle.replay_cmd.specs.Configs.{DeclaresNone, IsGenerationOf, FailsRead};
 
 use crate::why::{Failure, Why};
 use dyn_config::Config;
 use file_provider::{FileFault, read_file_config};
 use generation::{Built, Generation, build_generation};
-use provider_merge::merge;
-use px_base::List;
+use provider_merge::{declares_nothing, merge_file};
 use rule_eval::PatternShop;
 use std::alloc::Global;
 
@@ -45,28 +44,12 @@ fn generation_of<S: PatternShop>(
         (FailsRead text.now) }
 {
     let _text = text;
-    if is_empty(&config) {
+    if declares_nothing(&config) {
         return Ok(None);
     }
-    let merged = merge(alloc, config, empty_config(alloc))?;
+    let merged = merge_file(alloc, config)?;
     match build_generation(alloc, number, &merged, shop)? {
         Built::Generation(generation) => Ok(Some(generation)),
         Built::Later => Err(Failure::Refused(Why::Later)),
-    }
-}
-
-fn is_empty(config: &Config) -> bool
-    ensures { IsTrue result ↔ IsEmpty config.now }
-{
-    config.routers.is_empty() && config.services.is_empty() && config.middlewares.is_empty()
-}
-
-fn empty_config(alloc: Global) -> Config
-    ensures { IsEmpty result }
-{
-    Config {
-        routers: List::new(alloc),
-        services: List::new(alloc),
-        middlewares: List::new(alloc),
     }
 }

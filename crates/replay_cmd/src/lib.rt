@@ -10,4 +10,4 @@ mod run;
 mod tests;
 mod why;
 
-pub use answer::{Answer, replay};
+pub use answer::replay;

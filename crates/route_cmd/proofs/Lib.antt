@@ -1,4 +1,3 @@
 pub mod Parted
 pub mod Services
-pub mod Configs
 pub mod Stopped

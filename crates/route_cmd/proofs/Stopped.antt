@@ -2,16 +2,16 @@
 use Rattle.std.proofs.Common.{◌≡◌, ℕ, List, Option, Result, Ok, Err, IfErr, sym, subst}
 use Rattle.dyn_config.specs.declared.config.Config.{Config}
 use Rattle.dyn_config.specs.declared.merged.Merged.{Merged}
-use Rattle.file_provider.specs.Files.{IsFileConfig, WasRead}
+use Rattle.file_provider.specs.Files.{IsFileConfig, WasRead, file_limit}
 use Rattle.service_graph.specs.Only.{IsFirstForm}
-use Rattle.route_cmd.specs.Routes.{IsFileAlone}
+use Rattle.provider_merge.specs.Merging.{IsFileAlone}
 use Rattle.route_cmd.specs.Output.{Stops, StopsInput}
 use Rattle.route_cmd.specs.declared.answer.Stop.{Stop}
 use Rattle.route_cmd.specs.declared.answer.Stop.TheVariants.{File, Input, Memory}
 
 -- under a configuration that is served only the input can have failed
 pub stops_config : {A : Type 0} (r : Result A Stop) (config : Config) (m : Merged) (input_failed : Type 0) → IsFileAlone config m → IsFirstForm m → IfErr r (StopsInput input_failed)
-    → IfErr r (λ stop. (file : Option (List ℕ)) (bytes : List ℕ) → WasRead file bytes → IsFileConfig bytes (Ok config) → Stops file ⊥ input_failed stop)
+    → IfErr r (λ stop. (file : Option (List ℕ)) (bytes : List ℕ) → WasRead file file_limit bytes → IsFileConfig bytes (Ok config) → Stops file ⊥ input_failed stop)
 stops_config (Ok a) config m input_failed alone form h = tt
 stops_config (Err File) config m input_failed alone form h = absurd h
 stops_config (Err Input) config m input_failed alone form h =
@@ -24,8 +24,8 @@ stops_wider file file_failed input_failed Input h = h
 stops_wider file file_failed input_failed Memory h = tt
 
 -- the same of the file that was read
-pub stops_read : {A : Type 0} (r : Result A Stop) (config : Config) (file : Option (List ℕ)) (bytes : List ℕ) (file_failed input_failed : Type 0) → WasRead file bytes → IsFileConfig bytes (Ok config)
-    → IfErr r (λ stop. (f : Option (List ℕ)) (b : List ℕ) → WasRead f b → IsFileConfig b (Ok config) → Stops f ⊥ input_failed stop)
+pub stops_read : {A : Type 0} (r : Result A Stop) (config : Config) (file : Option (List ℕ)) (bytes : List ℕ) (file_failed input_failed : Type 0) → WasRead file file_limit bytes → IsFileConfig bytes (Ok config)
+    → IfErr r (λ stop. (f : Option (List ℕ)) (b : List ℕ) → WasRead f file_limit b → IsFileConfig b (Ok config) → Stops f ⊥ input_failed stop)
     → IfErr r (Stops file file_failed input_failed)
 stops_read (Ok a) config file bytes file_failed input_failed was means h = tt
 stops_read (Err s) config file bytes file_failed input_failed was means h = stops_wider file file_failed input_failed s (h file bytes was means)

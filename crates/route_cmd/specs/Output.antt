@@ -10,10 +10,11 @@ use Rattle.dyn_config.specs.declared.config.Config.{Config}
 use Rattle.dyn_config.specs.declared.merged.Entry.{Entry}
 use Rattle.dyn_config.specs.declared.merged.Merged.{Merged}
 use Rattle.dyn_config.specs.declared.service.ServiceDef.{ServiceDef}
-use Rattle.file_provider.specs.Files.{IsFileConfig, WasRead as WasFileRead}
+use Rattle.file_provider.specs.Files.{IsFileConfig, WasRead, IsOver, file_limit}
 use Rattle.file_provider.specs.declared.config.FileFault.{FileFault}
 use Rattle.file_provider.specs.declared.config.FileFault.TheVariants as file_fault
 use Rattle.fault_text.specs.Files.{file_fault_text}
+use Rattle.provider_merge.specs.Merging.{IsFileAlone}
 use Rattle.http_wire.specs.declared.requests.HeadFault.{HeadFault}
 use Rattle.http_wire.specs.declared.requests.HeadFault.TheVariants as fault
 use Rattle.rule_eval.specs.Truth.{Asked}
@@ -24,26 +25,14 @@ use Rattle.router_table.specs.declared.row.Row.{Row}
 use Rattle.service_graph.specs.Only.{IsOnlyServer, IsFirstForm}
 use Rattle.route_cmd.specs.declared.answer.Stop.{Stop}
 use Rattle.route_cmd.specs.declared.answer.Stop.TheVariants.{File, Input, Memory}
-use Rattle.route_cmd.specs.Routes.{IsFileAlone, AreRoutes, Refuses}
+use Rattle.route_cmd.specs.Routes.{AreRoutes, Refuses}
 use Rattle.route_cmd.specs.Requests.{HasFault, IsFaultless, IsLater, IsAsked, head_fault_name, request_text}
 
 -- a line of text
 abbrev pub line : List ℕ → List ℕ
 line text = text ++ 10 ∷ []
 
--- a source gave these bytes to its end, and they keep the limit: all that it had left, where it tells that
-pub record WasRead (left : Option (List ℕ)) (limit : ℕ) (bytes : List ℕ) : Type 0 where
-  pub all : IfSome left (λ had. bytes ≡ had)
-  pub fits : length bytes ≤ limit
-
--- a source had more left than the limit, where it tells that
-abbrev pub IsOver : Option (List ℕ) → ℕ → Type 0
-IsOver left limit = IfSome left (λ had. limit < length had)
-
--- how many bytes a configuration file may have, and an input
-abbrev pub file_limit : ℕ
-file_limit = 1048576
-
+-- how many bytes an input may have
 abbrev pub input_limit : ℕ
 input_limit = 16384
 
@@ -93,7 +82,7 @@ pub data InputOutput (m : Merged) (rows : List Row) (entry : List ℕ) (peer : I
 -- the file's source was read, and the file is this configuration
 pub record IsConfigured (file : Option (List ℕ)) (m : Merged) : Type 0 where
   pub bytes : List ℕ
-  pub was_read : WasFileRead file bytes
+  pub was_read : WasRead file file_limit bytes
   pub config : Config
   pub means : IsFileConfig bytes (Ok config)
   pub alone : IsFileAlone config m
@@ -102,7 +91,7 @@ pub record IsConfigured (file : Option (List ℕ)) (m : Merged) : Type 0 where
 -- `old` and `new` are what the shop counted before and after.
 pub data RouteOutput (entry : List ℕ) (peer : Ip) (old new : ℕ) (file input : Option (List ℕ)) (status : ℕ) (text : List ℕ) : Type 0 where
   long_file : IsOver file file_limit → status ≡ 8 → text ≡ line (codes "too long") → RouteOutput entry peer old new file input status text
-  refused_file : (bytes : List ℕ) (f : FileFault) → WasFileRead file bytes → IsFileConfig bytes (Err f) → f ≢ file_fault.Memory
+  refused_file : (bytes : List ℕ) (f : FileFault) → WasRead file file_limit bytes → IsFileConfig bytes (Err f) → f ≢ file_fault.Memory
       → status ≡ 3 → text ≡ line (file_fault_text f) → RouteOutput entry peer old new file input status text
   config_later : (m : Merged) → IsConfigured file m → ¬ (IsFirstForm m) → status ≡ 3 → text ≡ line (codes "config Later")
       → RouteOutput entry peer old new file input status text

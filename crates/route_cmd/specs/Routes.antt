@@ -1,25 +1,13 @@
 -- The routers and services of a configuration file.
 use Rattle.std.specs.Prelude.{◌≡◌, ℕ, ◌+◌, ◌-◌, ◌^◌, ◌≤◌, min, Bool, false, not, List, [], map, count_by}
 use Rattle.std.specs.List.{filter}
-use Rattle.dyn_config.specs.declared.config.Config.{Config}
 use Rattle.dyn_config.specs.declared.merged.Entry.{Entry}
 use Rattle.dyn_config.specs.declared.merged.Merged.{Merged}
 use Rattle.dyn_config.specs.declared.service.ServiceDef.{ServiceDef}
 use Rattle.dyn_config.specs.declared.service.ServiceDef.TheVariants.{Balancer, Weighted, Mirroring, Failover, Unsupported}
-use Rattle.provider_merge.specs.Merging.{IsMerged}
 use Rattle.router_table.specs.Settings.{setting_of}
 use Rattle.router_table.specs.Rows.{AreRows, is_refused}
 use Rattle.router_table.specs.declared.row.Row.{Row}
-
--- it declares nothing
-pub record IsEmpty (c : Config) : Type 0 where
-  pub routers : c.routers ≡ []
-  pub services : c.services ≡ []
-  pub middlewares : c.middlewares ≡ []
-
--- what the file declares, and no other provider anything
-abbrev pub IsFileAlone : Config → Merged → Type 0
-IsFileAlone config m = (none : Config) × IsEmpty none × IsMerged config none m
 
 abbrev pub is_usable_def : ServiceDef → Bool
 is_usable_def (Balancer b) = not b.unsupported

@@ -14,10 +14,10 @@ ghost use Rattle.route_cmd.specs.Requests.{HasFault, IsFaultless, query_bytes, h
 ghost use Rattle.route_cmd.specs.Output.{HeadAnswer, line};
 ghost use Rattle.route_cmd.specs.Parts.{IsLaterBy};
 
-use crate::answer::{Answer, make_answer};
 use crate::lines::route_line;
 use crate::routes::Routes;
 use body_codec::Framing;
+use command_words::{Answer, make_answer};
 use head_view::{HeadSpans, HeaderSpan, RequestView, view};
 use http_wire::{HeadFault, Request, RequestRefused, host_of_rules, take_request};
 use ip_net::Ip;

@@ -10,5 +10,5 @@ mod routes;
 #[cfg(test)]
 mod tests;
 
-pub use answer::{Answer, Stop};
+pub use answer::Stop;
 pub use route::answer_route;

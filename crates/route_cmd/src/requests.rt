@@ -5,9 +5,10 @@ ghost use Rattle.service_graph.specs.Only.{IsFirstForm};
 ghost use Rattle.route_cmd.specs.Routes.{AreRoutes};
 ghost use Rattle.route_cmd.specs.Output.{Answered, InputOutput, StopsInput};
 
-use crate::answer::{Answer, Stop, make_answer};
+use crate::answer::Stop;
 use crate::heads::answer_head;
 use crate::routes::Routes;
+use command_words::{Answer, make_answer};
 use head_view::{EMPTY_HEADER_SPAN, Scan, scan_request};
 use ip_net::Ip;
 use px_base::{Memory, ReadFault, Source, read_all};

@@ -1,18 +1,20 @@
 //! The command.
 ghost use Rattle.std.specs.Prelude.{◌≡◌, ◌≢◌, ℕ, List, Option, Ok, true, IsTrue, ◌↔◌, IfOk, IfErr};
 ghost use Rattle.px_base.specs.Bytes.{Rose};
-ghost use Rattle.file_provider.specs.Files.{IsFileConfig, WasRead as WasFileRead};
+ghost use Rattle.file_provider.specs.Files.{IsFileConfig, WasRead, file_limit};
 ghost use Rattle.file_provider.specs.declared.config.FileFault.TheVariants.{Memory as NoMemory};
 ghost use Rattle.route_cmd.specs.Output.{RouteOutput, Stops, line};
 ghost use Rattle.fault_text.specs.Files.{file_fault_text};
 
-use crate::answer::{Answer, Stop, make_answer};
+use crate::answer::Stop;
 use crate::requests::answer_source;
-use crate::routes::{merged_of, routes_of};
+use crate::routes::routes_of;
+use command_words::{Answer, make_answer};
 use dyn_config::Config;
 use fault_text::push_file_fault;
 use file_provider::{FileFault, PollFault, poll_file};
 use ip_net::Ip;
+use provider_merge::merge_file;
 use px_base::{Memory, Source};
 use rule_eval::PatternShop;
 use service_graph::is_first_form;
@@ -88,14 +90,14 @@ fn answer_config<Q: Source, S: PatternShop>(
     input: &mut Q,
     shop: &mut S,
 ) -> Result<Answer, Stop>
-    ensures told { IfOk result (λ a. (file : Option (List ℕ)) (bytes : List ℕ) → WasFileRead file bytes → IsFileConfig bytes (Ok config)
+    ensures told { IfOk result (λ a. (file : Option (List ℕ)) (bytes : List ℕ) → WasRead file file_limit bytes → IsFileConfig bytes (Ok config)
         → RouteOutput entry.now peer (S.refusals shop.old) (S.refusals shop.new) file (Q.left input.old) a.status a.text.items) }
     ensures end { IfOk result (λ a. a.status ≡ 0 → Q.ended input.new ≡ true) }
     ensures apart { IfOk result (λ a. (a.status ≢ 5) × (a.status ≢ 6)) }
-    ensures stop { IfErr result (λ stop. (file : Option (List ℕ)) (bytes : List ℕ) → WasFileRead file bytes → IsFileConfig bytes (Ok config)
+    ensures stop { IfErr result (λ stop. (file : Option (List ℕ)) (bytes : List ℕ) → WasRead file file_limit bytes → IsFileConfig bytes (Ok config)
         → Stops file ⊥ (Rose (Q.faults input.old) (Q.faults input.new)) stop) }
 {
-    let merged = merged_of(alloc, config)?;
+    let merged = merge_file(alloc, config)?;
     if !is_first_form(alloc, &merged)? {
         return Ok(make_answer(alloc, 3, b"config Later\n")?);
     }

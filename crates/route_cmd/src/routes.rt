@@ -1,13 +1,10 @@
 //! The routers and services of a configuration file.
 ghost use Rattle.std.specs.Prelude.{◌≡◌, ◌+◌, ◌-◌, ◌^◌, ◌≤◌, min, count_by, map, IfOk, MatchOption};
 ghost use Rattle.std.specs.List.{filter};
-ghost use Rattle.provider_merge.specs.Merging.{IsMerged};
 ghost use Rattle.router_table.specs.Rows.{is_refused};
-ghost use Rattle.dyn_config.specs.declared.config.Config.{Config as Given};
-ghost use Rattle.route_cmd.specs.Routes.{IsEmpty, IsFileAlone, AreRoutes, Refuses, is_usable as may_be_used, usable_names as names_of_usable, name_of};
+ghost use Rattle.route_cmd.specs.Routes.{AreRoutes, Refuses, is_usable as may_be_used, usable_names as names_of_usable, name_of};
 
-use dyn_config::{Config, Entry, Merged, ServiceDef};
-use provider_merge::merge;
+use dyn_config::{Entry, Merged, ServiceDef};
 use px_base::{Bytes, List, Memory};
 use router_table::{Table, build_table};
 use rule_eval::PatternShop;
@@ -21,23 +18,6 @@ const MAX_PATTERNS: u32 = 256;
 pub(crate) struct Routes {
     pub merged: Merged,
     pub table: Table,
-}
-
-// The configuration of a file alone.
-pub(crate) fn merged_of(alloc: Global, config: Config) -> Result<Merged, Memory>
-    ensures { IfOk result (IsFileAlone config) }
-{
-    merge(alloc, config, empty_config(alloc))
-}
-
-fn empty_config(alloc: Global) -> Config
-    ensures { IsEmpty result }
-{
-    Config {
-        routers: List::new(alloc),
-        services: List::new(alloc),
-        middlewares: List::new(alloc),
-    }
 }
 
 // The table of the routers of a configuration without middlewares.

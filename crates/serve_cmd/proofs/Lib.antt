@@ -1,3 +1,2 @@
-pub mod Configs
 pub mod Ends
 pub mod Meant

@@ -7,6 +7,7 @@ use Rattle.dyn_config.specs.declared.merged.Merged.{Merged}
 use Rattle.file_provider.specs.Files.{IsFileConfig}
 use Rattle.file_provider.specs.declared.config.FileFault.{FileFault}
 use Rattle.file_provider.specs.declared.config.FileFault.TheVariants as file
+use Rattle.provider_merge.specs.Merging.{IsFileAlone}
 use Rattle.fault_text.specs.Files.{file_fault_text}
 use Rattle.generation.specs.Meaning.{plan_of}
 use Rattle.generation.specs.Built.{IsBuilt}
@@ -14,7 +15,7 @@ use Rattle.generation.specs.declared.building.Built.{Built}
 use Rattle.generation.specs.declared.building.Built.TheVariants as built
 use Rattle.generation.specs.declared.generation.Generation.{Generation}
 use Rattle.serve_cmd.specs.declared.reading.Reading.{Reading}
-use Rattle.serve_cmd.specs.Meanings.{MeansConfig, MeansBytes, IsAlone, IsNothing, fault_line, configured, faulty, later}
+use Rattle.serve_cmd.specs.Meanings.{MeansConfig, MeansBytes, fault_line, configured, faulty, later}
 
 -- a configuration's reading is its bytes' reading
 pub bytes_meant : (bytes : List ℕ) (config : Config) (r : Result Reading AllocError) → IsFileConfig bytes (Ok config)
@@ -34,7 +35,7 @@ none_numbered (Ok x) g = rw g tt
 none_numbered (Err e) g = tt
 
 -- a configuration that isn't served yet
-pub later_meant : (config : Config) (m : Merged) (r : Result Reading AllocError) → IsAlone config m → IsBuilt 1 m built.Later
+pub later_meant : (config : Config) (m : Merged) (r : Result Reading AllocError) → IsFileAlone config m → IsBuilt 1 m built.Later
     → IfOk r (λ x. x.generation ≡ None) → IfOk r (λ x. x.text.items ≡ fault_line (codes "config Later")) → IfOk r (λ x. MeansConfig config x.generation x.text.items)
 later_meant config m (Ok x) alone is g t = later m alone is g t
 later_meant config m (Err e) alone is g t = tt

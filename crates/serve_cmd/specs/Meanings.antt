@@ -5,7 +5,7 @@ use Rattle.dyn_config.specs.declared.merged.Merged.{Merged}
 use Rattle.file_provider.specs.Files.{IsFileConfig}
 use Rattle.file_provider.specs.declared.config.FileFault.{FileFault}
 use Rattle.file_provider.specs.declared.config.FileFault.TheVariants as file
-use Rattle.provider_merge.specs.Merging.{IsMerged}
+use Rattle.provider_merge.specs.Merging.{DeclaresNothing, IsFileAlone}
 use Rattle.fault_text.specs.Files.{file_fault_text}
 use Rattle.conversation.specs.Plans.{Plan}
 use Rattle.generation.specs.Meaning.{plan_of}
@@ -21,26 +21,16 @@ pub record IsEmpty (p : Plan) : Type 0 where
   pub number : p.number ≡ 0
   pub rows : p.rows ≡ []
 
--- the configuration declares nothing
-pub record IsNothing (c : Config) : Type 0 where
-  pub routers : c.routers ≡ []
-  pub services : c.services ≡ []
-  pub middlewares : c.middlewares ≡ []
-
 -- the line of a fault of the file
 abbrev pub fault_line : List ℕ → List ℕ
 fault_line text = codes "fault file " ++ text ++ codes "\n"
 
--- the configuration of the file alone, under qualified names
-abbrev pub IsAlone : Config → Merged → Type 0
-IsAlone config m = (none : Config) × IsNothing none × IsMerged config none m
-
 -- what a configuration is published as, and what is written: nothing where it declares nothing; a fault where it is of a
 -- kind that isn't served yet; else its generation, with the number 1, and that one's text
 pub data MeansConfig (config : Config) (g : Option Generation) (text : List ℕ) : Type 0 where
-  same : IsNothing config → g ≡ None → text ≡ [] → MeansConfig config g text
-  later : (m : Merged) → IsAlone config m → IsBuilt 1 m built.Later → g ≡ None → text ≡ fault_line (codes "config Later") → MeansConfig config g text
-  changed : (m : Merged) (built_as : Generation) → IsAlone config m → IsBuilt 1 m (built.Generation built_as) → g ≡ Some built_as → IsGenerationText m built_as text
+  same : DeclaresNothing config → g ≡ None → text ≡ [] → MeansConfig config g text
+  later : (m : Merged) → IsFileAlone config m → IsBuilt 1 m built.Later → g ≡ None → text ≡ fault_line (codes "config Later") → MeansConfig config g text
+  changed : (m : Merged) (built_as : Generation) → IsFileAlone config m → IsBuilt 1 m (built.Generation built_as) → g ≡ Some built_as → IsGenerationText m built_as text
       → MeansConfig config g text
 
 -- the same of a file's bytes: a fault where they are no configuration

@@ -1,17 +1,17 @@
 //! What the first load is published as, and what is written of it.
-ghost use Rattle.std.specs.Prelude.{◌≡◌, ◌≢◌, ◌↔◌, [], None, IfOk, IfSome, OnOk, IsTrue};
+ghost use Rattle.std.specs.Prelude.{◌≡◌, ◌≢◌, [], None, IfOk, IfSome, OnOk};
 ghost use Rattle.generation.specs.Meaning.{plan_of};
 ghost use Rattle.fault_text.specs.Files.{file_fault_text};
-ghost use Rattle.serve_cmd.specs.Meanings.{Means, MeansBytes, MeansConfig, IsEmpty, IsNothing, IsAlone, fault_line};
+ghost use Rattle.serve_cmd.specs.Meanings.{Means, MeansBytes, MeansConfig, IsEmpty, fault_line};
 
 use crate::loading::Found;
 use crate::text::generation_text;
-use dyn_config::{Config, Merged};
+use dyn_config::Config;
 use fault_text::push_file_fault;
 use file_provider::{FileFault, read_file_config};
 use generation::{Built, Generation, build_generation};
-use provider_merge::merge;
-use px_base::{List, Memory};
+use provider_merge::{declares_nothing, merge_file};
+use px_base::Memory;
 use rule_eval::PatternShop;
 use std::alloc::{AllocError, Global};
 
@@ -117,10 +117,10 @@ fn read_config<S: PatternShop>(
     ensures means { IfOk result (λ reading. MeansConfig config reading.generation reading.text.items) }
     ensures number { IfOk result (λ reading. IfSome reading.generation (λ g. (plan_of g).number ≡ 1)) }
 {
-    if is_nothing(&config) {
+    if declares_nothing(&config) {
         return Ok(nothing(alloc));
     }
-    let merged = alone(alloc, config)?;
+    let merged = merge_file(alloc, config)?;
     match build_generation(alloc, 1, &merged, shop)? {
         Built::Generation(generation) => {
             let text = generation_text(alloc, &merged, &generation)?;
@@ -130,28 +130,5 @@ fn read_config<S: PatternShop>(
             })
         }
         Built::Later => fault(alloc, b"config Later"),
-    }
-}
-
-fn is_nothing(config: &Config) -> bool
-    ensures { IsTrue result ↔ IsNothing config.now }
-{
-    config.routers.is_empty() && config.services.is_empty() && config.middlewares.is_empty()
-}
-
-// The file's configuration alone.
-fn alone(alloc: Global, config: Config) -> Result<Merged, Memory>
-    ensures { IfOk result (IsAlone config) }
-{
-    merge(alloc, config, empty_config(alloc))
-}
-
-fn empty_config(alloc: Global) -> Config
-    ensures { IsNothing result }
-{
-    Config {
-        routers: List::new(alloc),
-        services: List::new(alloc),
-        middlewares: List::new(alloc),
     }
 }

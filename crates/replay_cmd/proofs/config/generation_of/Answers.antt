@@ -2,8 +2,8 @@ use Rattle.std.proofs.Common.{refl}
 use Rattle.replay_cmd.proofs.Telling.{not_true}
 use Rattle.replay_cmd.proofs.config.generation_of.Goals as goal
 
-pub returns-then-is_empty : goal.returns-then-is_empty
-returns-then-is_empty g c = (c.args.config, c.requires, c.if-is_empty.ensures.0 refl)
+pub returns-then-declares_nothing : goal.returns-then-declares_nothing
+returns-then-declares_nothing g c = (c.args.config, c.requires, c.if-declares_nothing.ensures.0 refl)
 
 pub returns-in-Generation : goal.returns-in-Generation
 returns-in-Generation g c =
@@ -11,9 +11,9 @@ returns-in-Generation g c =
     record {
       config = c.args.config;
       is_config = c.requires;
-      some = λ e. not_true (c.if-is_empty.ensures.1 e);
+      some = λ e. not_true (c.if-declares_nothing.ensures.1 e);
       merged = c.in_ok-merged.merged;
-      is_merged = (c.empty_config.result, c.empty_config.ensures, c.in_ok-merged.ensures);
+      is_merged = c.in_ok-merged.ensures;
       form = built.0;
       is_of = built.1;
     }
@@ -21,4 +21,4 @@ returns-in-Generation g c =
 pub returns : goal.returns
 returns g c =
     let built = rw c.in-Later.is at c.in_ok-generation.ensures in
-    (c.args.config, c.in_ok-merged.merged, c.requires, (c.empty_config.result, c.empty_config.ensures, c.in_ok-merged.ensures), built)
+    (c.args.config, c.in_ok-merged.merged, c.requires, c.in_ok-merged.ensures, built)

@@ -1,5 +1,5 @@
-use Rattle.replay_cmd.proofs.Configs.{empty_few, empty_named, empty_in_range}
-use Rattle.replay_cmd.proofs.config.empty_config.Goals as goal
+use Rattle.provider_merge.proofs.Empty.{empty_few, empty_named, empty_in_range}
+use Rattle.provider_merge.proofs.alone.empty_config.Goals as goal
 
 pub invariant_of-result : goal.invariant_of-result
 invariant_of-result c = record {
