@@ -35,9 +35,10 @@ pub named_here : (buf name : List ℕ) (left lines : List HeaderSpan) (line : He
     → has_name name (header_bytes buf line) ≡ true → value ≡ span_bytes buf line.value → HaveSame buf name left lines
     → AreWithin buf rest × (values_of name (lines_at buf lines) ≡ value ∷ values_of name (lines_at buf rest))
 named_here buf name left lines line rest value is named v h =
-    let there : HaveSame buf name (line ∷ rest) lines = subst (λ (l : List HeaderSpan). HaveSame buf name l lines) is h in
-    (All-tail (IsHeaderWithin (length buf)) line rest there.0,
-    sym there.1 ∙ here buf name line rest named ∙ ap (λ (x : List ℕ). x ∷ values_of name (lines_at buf rest)) (sym v))
+    let there : HaveSame buf name (line ∷ rest) lines = subst (λ (l : List HeaderSpan). HaveSame buf name l lines) is h in (
+      All-tail (IsHeaderWithin (length buf)) line rest there.0,
+      sym there.1 ∙ here buf name line rest named ∙ ap (λ (x : List ℕ). x ∷ values_of name (lines_at buf rest)) (sym v),
+    )
 
 skip_last : (buf name : List ℕ) (line : HeaderSpan) (front : List HeaderSpan) → has_name name (header_bytes buf line) ≡ false
     → values_of name (lines_at buf (front ++ line ∷ [])) ≡ values_of name (lines_at buf front)
@@ -54,9 +55,10 @@ skip_last buf name line (first ∷ front) other = by (has_name name (header_byte
 pub named_front : (buf name : List ℕ) (left lines : List HeaderSpan) (line : HeaderSpan) (front : List HeaderSpan) → left ≡ front ++ line ∷ []
     → has_name name (header_bytes buf line) ≡ false → HaveSame buf name left lines → HaveSame buf name front lines
 named_front buf name left lines line front is other h =
-    let there : HaveSame buf name (front ++ line ∷ []) lines = subst (λ (l : List HeaderSpan). HaveSame buf name l lines) is h in
-    (subst (λ (l : List HeaderSpan). AreWithin buf l) (take_at front (line ∷ []) (length front) refl) (All-take (IsHeaderWithin (length buf)) (length front) (front ++ line ∷ []) there.0),
-    sym (skip_last buf name line front other) ∙ there.1)
+    let there : HaveSame buf name (front ++ line ∷ []) lines = subst (λ (l : List HeaderSpan). HaveSame buf name l lines) is h in (
+      subst (λ (l : List HeaderSpan). AreWithin buf l) (take_at front (line ∷ []) (length front) refl) (All-take (IsHeaderWithin (length buf)) (length front) (front ++ line ∷ []) there.0),
+      sym (skip_last buf name line front other) ∙ there.1,
+    )
 
 -- a text without the blanks round it is no longer
 trimmed_le : (text : List ℕ) → length (trimmed text) ≤ length text

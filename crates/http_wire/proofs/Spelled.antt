@@ -69,7 +69,7 @@ value_there text name value =
     let front : List ℕ = text ++ (name ++ codes ": ") in
     let n : length front ≡ length text + length name + 2 = omega (arith, length-append text (name ++ codes ": "), length-append name (codes ": ")) in
     let shape : text ++ field_text name value ≡ front ++ value ++ crlf =
-        sym (append_assoc text (name ++ codes ": " ++ value) crlf) ∙ ap (λ (x : List ℕ). x ++ crlf) (sym (append_assoc text (name ++ codes ": ") value)) in
+    sym (append_assoc text (name ++ codes ": " ++ value) crlf) ∙ ap (λ (x : List ℕ). x ++ crlf) (sym (append_assoc text (name ++ codes ": ") value)) in
     ap (λ (x : List ℕ). slice_range x (length text + length name + 2) (length text + length name + 2 + length value)) shape
     ∙ at_place front value crlf (length text + length name + 2) (length text + length name + 2 + length value) (sym n) (ap (λ (x : ℕ). x + length value) (sym n))
 
@@ -94,7 +94,7 @@ lines_more text spans name value within =
     let more : List ℕ = field_text name value in
     let new : HeaderSpan = span_at (length text) (length name) (length value) in
     let field : header_bytes (text ++ more) new ≡ (name, value) =
-        ap (λ (n : List ℕ). (n, span_bytes (text ++ more) new.value)) (name_there text name value) ∙ ap (λ (v : List ℕ). (name, v)) (value_there text name value) in
+    ap (λ (n : List ℕ). (n, span_bytes (text ++ more) new.value)) (name_there text name value) ∙ ap (λ (v : List ℕ). (name, v)) (value_there text name value) in
     map-append (header_bytes (text ++ more)) spans (new ∷ [])
     ∙ ap (λ (fs : List Field). fs ++ header_bytes (text ++ more) new ∷ []) (same_lines text more spans within)
     ∙ ap (λ (f : Field). lines_at text spans ++ f ∷ []) field
@@ -140,14 +140,14 @@ spelled_there buf h within ordered room gap end =
     let value : List ℕ = span_bytes buf h.value in
     let rest : List ℕ = drop (h.value.end + 2) buf in
     let whole : drop h.name.start buf ≡ name ++ (codes ": " ++ (value ++ (crlf ++ rest))) =
-        drop_split buf h.name.start h.name.end within.0.0
-        ∙ ap (λ (x : List ℕ). name ++ x) (drop_split buf h.name.end h.value.start ordered
-        ∙ ap (λ (x : List ℕ). x ++ drop h.value.start buf) gap
-        ∙ ap (λ (x : List ℕ). codes ": " ++ x) (drop_split buf h.value.start h.value.end within.1.0
-        ∙ ap (λ (x : List ℕ). value ++ x) (drop_split buf h.value.end (h.value.end + 2) (omega arith) ∙ ap (λ (x : List ℕ). x ++ rest) end))) in
+    drop_split buf h.name.start h.name.end within.0.0
+    ∙ ap (λ (x : List ℕ). name ++ x) (drop_split buf h.name.end h.value.start ordered
+    ∙ ap (λ (x : List ℕ). x ++ drop h.value.start buf) gap
+    ∙ ap (λ (x : List ℕ). codes ": " ++ x) (drop_split buf h.value.start h.value.end within.1.0
+    ∙ ap (λ (x : List ℕ). value ++ x) (drop_split buf h.value.end (h.value.end + 2) (omega arith) ∙ ap (λ (x : List ℕ). x ++ rest) end))) in
     let joined : drop h.name.start buf ≡ field_text name value ++ rest =
-        whole ∙ sym (ap (λ (x : List ℕ). x ++ rest) (from_name name value) ∙ append_assoc name (codes ": " ++ (value ++ crlf)) rest
-        ∙ ap (λ (x : List ℕ). name ++ x) (append_assoc (codes ": ") (value ++ crlf) rest ∙ ap (λ (x : List ℕ). codes ": " ++ x) (append_assoc value crlf rest))) in
+    whole ∙ sym (ap (λ (x : List ℕ). x ++ rest) (from_name name value) ∙ append_assoc name (codes ": " ++ (value ++ crlf)) rest
+    ∙ ap (λ (x : List ℕ). name ++ x) (append_assoc (codes ": ") (value ++ crlf) rest ∙ ap (λ (x : List ℕ). codes ": " ++ x) (append_assoc value crlf rest))) in
     let n : length name ≡ h.name.end - h.name.start = length-slice_range buf h.name.start h.name.end within.0.0 within.0.1 in
     let v : length value ≡ h.value.end - h.value.start = length-slice_range buf h.value.start h.value.end within.1.0 within.1.1 in
     let g : h.value.start - h.name.end ≡ 2 = sym (length-slice_range buf h.name.end h.value.start ordered (omega (arith, within.1.0, within.1.1))) ∙ ap length gap in

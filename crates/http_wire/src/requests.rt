@@ -14,9 +14,7 @@ ghost use Rattle.http_wire.specs.Framing.{encodings_of, lengths_of, framing_by, 
 ghost use Rattle.http_wire.specs.Targets.{path_of, query_of, is_bad_target};
 ghost use Rattle.http_wire.specs.Requests.{hosts_of, first_or_empty, host_in, HasNoHost, HasTwoHosts, IsHosted, is_forwarded, is_replaced, goes_to_backend, told_fields, lines_for_backend, keeps, IsRequestOf, IsBadTarget, IsSound, IsHeadFault, TakesRequest};
 
-use crate::fields::{
-    does_go_on, first_named, has_none, is_in_connection, is_named, option_lines,
-};
+use crate::fields::{does_go_on, first_named, has_none, is_in_connection, is_named, option_lines};
 use crate::framing::{FramingFault, framing_of};
 use crate::lines::{FieldLines, room_of};
 use crate::message::Request;

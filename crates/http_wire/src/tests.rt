@@ -72,7 +72,12 @@ fn requests(rt: &impl Abort, alloc: Global) -> Result<(), Fail> {
 
     // Another authority, a query and a body.
     let query = Bytes::from_slice(alloc, b"a=b?c")?;
-    let request = request_of(alloc, Some(query), FieldLines::new(alloc), Framing::Length(5))?;
+    let request = request_of(
+        alloc,
+        Some(query),
+        FieldLines::new(alloc),
+        Framing::Length(5),
+    )?;
     expect_request(
         rt,
         alloc,
