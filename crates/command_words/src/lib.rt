@@ -1,7 +1,6 @@
-//! The words that the program is called with, the commands that they are, and what a command answers.
+//! The words that the program is called with, and the commands that they are.
 #![tactic(auto)]
 
-mod answer;
 mod command;
 mod cuts;
 mod kind;
@@ -16,7 +15,6 @@ mod sorting;
 #[cfg(test)]
 mod tests;
 
-pub use answer::{Answer, make_answer};
 pub use command::{Command, RoutePlan, WordFault};
 pub use laws::words_are_made_of_pieces;
 pub use read::read_words;

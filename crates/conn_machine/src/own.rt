@@ -15,6 +15,6 @@ pub fn own_text(alloc: Global, status: u16, close: bool, out: &mut Vec<u8>) -> R
 {
     let reply = own_reply(alloc, status, None)?;
     let content = own_content(alloc, status)?;
-    spell_reply(alloc, &reply, 1, close, out)?;
+    spell_reply(&reply, 1, close, out)?;
     out.extend_from_slice(content.as_slice())
 }

@@ -26,14 +26,13 @@ pub fn relay(
     let had = has_reply(back);
     let content = back.bytes(alloc, piece)?;
     out.reserve(piece.len())?;
-    push_head(alloc, had, back, version, close, out)?;
+    push_head(had, back, version, close, out)?;
     out.extend_from_slice(&piece[content.from..content.from + content.len])?;
     Ok(())
 }
 
 // Appends the head of the reply, where it is whole and wasn't before.
 fn push_head(
-    alloc: Global,
     had: bool,
     back: &BoxedBack,
     version: u8,
@@ -46,7 +45,7 @@ fn push_head(
         return Ok(());
     }
     match back.get().reply() {
-        Some(reply) => spell_reply(alloc, reply, version, close, out),
+        Some(reply) => spell_reply(reply, version, close, out),
         None => Ok(()),
     }
 }

@@ -33,13 +33,7 @@ pub fn spell_request(
 /// Appends the head of a reply as it goes to a client of this minor version, with `Connection: close` or without.
 ///
 /// Where memory runs out nothing is appended.
-pub fn spell_reply(
-    _alloc: Global,
-    reply: &Reply,
-    version: u8,
-    close: bool,
-    out: &mut Vec<u8>,
-) -> Result<(), Memory>
+pub fn spell_reply(reply: &Reply, version: u8, close: bool, out: &mut Vec<u8>) -> Result<(), Memory>
     ensures ok { OnOk result (out.new.items ≡ out.old.items ++ reply_text reply.now version close) }
     ensures err { OnErr result (out.new.items ≡ out.old.items) }
 {

@@ -28,7 +28,7 @@ fn reply_taken(
     match take_reply(alloc, buf, &room, &spans, method.as_bytes()) {
         Ok(reply) => {
             let mut out = Vec::new(alloc);
-            spell_reply(alloc, &reply, 1, false, &mut out)?;
+            spell_reply(&reply, 1, false, &mut out)?;
             Ok(Ok(out))
         }
         Err(refused) => Ok(Err(refused)),

@@ -96,7 +96,7 @@ fn expect_reply(
     text: &str,
 ) -> Result<(), Fail> {
     let mut out = Vec::new(alloc);
-    spell_reply(alloc, reply, version, close, &mut out)?;
+    spell_reply(reply, version, close, &mut out)?;
     assert_eq!(rt; out.as_slice(), text.as_bytes());
     Ok(())
 }
@@ -145,7 +145,7 @@ fn expect_own(rt: &impl Abort, alloc: Global, status: u16, text: &str) -> Result
     let reply = own_reply(alloc, status, None)?;
     let content = own_content(alloc, status)?;
     let mut out = Vec::new(alloc);
-    spell_reply(alloc, &reply, 1, false, &mut out)?;
+    spell_reply(&reply, 1, false, &mut out)?;
     out.extend_from_slice(content.as_slice())?;
     assert_eq!(rt; out.as_slice(), text.as_bytes());
     Ok(())

@@ -6,8 +6,8 @@ ghost use Rattle.replay_cmd.specs.Replays.{Replayed};
 ghost use Rattle.proxy_cmd.specs.Output.{Output, ReplayOutput, Unread, StopsReplay, StopsWords, Ends};
 
 use crate::usage::usage_answer;
-use command_words::{Answer, Command, RoutePlan, WordFault, make_answer, read_words};
-use px_base::{Memory, ReadFault, Sink, Source, read_all, write_all};
+use command_words::{Command, RoutePlan, WordFault, read_words};
+use px_base::{Answer, Memory, ReadFault, Sink, Source, make_answer, read_all, write_all};
 use replay_cmd::replay;
 use route_cmd::{Stop, answer_route};
 use rule_eval::PatternShop;

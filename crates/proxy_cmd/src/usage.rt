@@ -2,8 +2,7 @@
 ghost use Rattle.std.specs.Prelude.{◌≡◌, IfOk};
 ghost use Rattle.proxy_cmd.specs.Output.{usage_text};
 
-use command_words::{Answer, make_answer};
-use px_base::Memory;
+use px_base::{Answer, Memory, make_answer};
 use std::alloc::Global;
 
 // The answer to words that are no command here.

@@ -1,6 +1,7 @@
-//! What the crates above share: lists in public fields, sources and sinks of bytes, and decimals.
+//! What the crates above share: lists in public fields, sources and sinks of bytes, decimals, and what a command answers.
 #![tactic(auto)]
 
+mod answer;
 mod decimal;
 mod list;
 mod memory_sink;
@@ -14,6 +15,7 @@ mod step;
 mod tests;
 mod text;
 
+pub use answer::{Answer, make_answer};
 pub use decimal::{print_decimal, read_decimal};
 pub use list::{Bytes, List};
 pub use memory_sink::MemorySink;

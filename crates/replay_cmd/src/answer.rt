@@ -6,8 +6,7 @@ use crate::cut::is_blank;
 use crate::output::output_of;
 use crate::run::Run;
 use crate::why::{Failure, refusal_of};
-use command_words::Answer;
-use px_base::Memory;
+use px_base::{Answer, Memory};
 use rule_eval::PatternShop;
 use std::alloc::{AllocError, Global};
 

@@ -17,11 +17,10 @@ ghost use Rattle.route_cmd.specs.Parts.{IsLaterBy};
 use crate::lines::route_line;
 use crate::routes::Routes;
 use body_codec::Framing;
-use command_words::{Answer, make_answer};
 use head_view::{HeadSpans, HeaderSpan, RequestView, view};
 use http_wire::{HeadFault, Request, RequestRefused, host_of_rules, take_request};
 use ip_net::Ip;
-use px_base::{Bytes, Memory};
+use px_base::{Answer, Bytes, Memory, make_answer};
 use std::alloc::{AllocError, Global};
 
 // The answer to the head that a scan of the input found.

@@ -8,10 +8,9 @@ ghost use Rattle.route_cmd.specs.Output.{Answered, InputOutput, StopsInput};
 use crate::answer::Stop;
 use crate::heads::answer_head;
 use crate::routes::Routes;
-use command_words::{Answer, make_answer};
 use head_view::{EMPTY_HEADER_SPAN, Scan, scan_request};
 use ip_net::Ip;
-use px_base::{Memory, ReadFault, Source, read_all};
+use px_base::{Answer, Memory, ReadFault, Source, make_answer, read_all};
 use std::alloc::Global;
 
 /// The greatest length of an input of `route`, in bytes.

@@ -1,7 +1,7 @@
 //! What a command answers.
 ghost use Rattle.std.specs.Prelude.{◌≡◌, IfOk};
 
-use px_base::Memory;
+use crate::Memory;
 use std::alloc::Global;
 
 /// A status and the text that goes with it.
