@@ -122,3 +122,27 @@ lately_of clocked no_more table = record {
   read_was_quiet = λ l. (meaning table l).asked.read_was_quiet;
   write_was_quiet = λ l. (meaning table l).asked.write_was_quiet;
 }
+
+-- a world in which nothing happened yet
+abbrev pub new_seen : Seen
+new_seen = record {
+  now = 0;
+  waits = 0;
+  waits_failed = 0;
+  stops = 0;
+  faults = λ l. 0;
+  come = λ l. false;
+  is_open = λ l. false;
+  log = None;
+}
+
+abbrev pub new_lately : Lately
+new_lately = record {
+  clocked = false;
+  no_more = false;
+  reads = λ l. 0;
+  read_quiet = λ l. false;
+  write_quiet = λ l. false;
+  read_was_quiet = λ l. false;
+  write_was_quiet = λ l. false;
+}

@@ -1,7 +1,7 @@
 //! The places of links. A link's number says its place, so that asking an idle link reads one place.
-ghost use Rattle.std.specs.Prelude.{◌≡◌, ◌+◌, ◌<◌, ◌%◌, ◌^◌, ◌-◌, ℕ, true, false, cond, length, IfSome, IfNone, ◌≤◌};
+ghost use Rattle.std.specs.Prelude.{◌≡◌, ◌+◌, ◌<◌, ◌%◌, ◌^◌, ◌-◌, ℕ, true, false, cond, length, IfOk, IfSome, IfNone, ◌≤◌};
 ghost use Rattle.mio_world.specs.Slots.{TableView, Meaning, meaning, Put, new_meaning, never_come, shut_meaning};
-ghost use Rattle.mio_world.specs.Tables.{IsOpenAt, IsOpenMeaning, Given, AreWithin, table_of, read_meaning, write_meaning, began};
+ghost use Rattle.mio_world.specs.Tables.{IsOpenAt, IsOpenMeaning, Given, AreWithin, AreFresh, IsNew, table_of, read_meaning, write_meaning, began};
 
 use crate::slot::{Asked, Slot};
 use link_world::{LinkRead, LinkWrite};
@@ -48,17 +48,10 @@ const UNTOUCHED: Asked = Asked {
 
 impl Table {
     /// No link was given yet.
-    pub fn new(alloc: Global) -> Result<Table, Memory> {
-        let mut slots = Vec::with_capacity(alloc, PLACES)?;
-        for at in 0..PLACES {
-            slots.push(Slot {
-                asked: UNTOUCHED,
-                faults: 0,
-                link: at as u32,
-                given: false,
-                is_open: false,
-            })?;
-        }
+    pub fn new(alloc: Global) -> Result<Table, Memory>
+        ensures { IfOk result IsNew }
+    {
+        let slots = fresh_slots(alloc)?;
         Ok(Table { slots, waits: 0 })
     }
 
@@ -128,6 +121,24 @@ impl Table {
     {
         self.waits += 1;
     }
+}
+
+// Places of which no link was given yet.
+fn fresh_slots(alloc: Global) -> Result<Vec<Slot>, Memory>
+    ensures fresh { IfOk result (λ slots. AreFresh slots.items) }
+    ensures within { IfOk result (λ slots. AreWithin 0 slots.items) }
+{
+    let mut slots = Vec::with_capacity(alloc, PLACES)?;
+    for at in 0..PLACES {
+        slots.push(Slot {
+            asked: UNTOUCHED,
+            faults: 0,
+            link: at as u32,
+            given: false,
+            is_open: false,
+        })?;
+    }
+    Ok(slots)
 }
 
 // A new link at a place, where it has no open one and numbers are left.

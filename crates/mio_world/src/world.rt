@@ -1,7 +1,7 @@
 //! The world of real sockets: what its calls answer follows the meanings of `World`, and what the
 //! sockets carry is the system's.
-ghost use Rattle.std.specs.Prelude.{◌≡◌, ◌≤◌};
-ghost use Rattle.mio_world.specs.Slots.{meaning};
+ghost use Rattle.std.specs.Prelude.{◌≡◌, ◌≤◌, IfOk};
+ghost use Rattle.mio_world.specs.Slots.{meaning, seen_of, lately_of, new_seen, new_lately};
 
 use crate::access::Access;
 use crate::sockets::Sockets;
@@ -44,14 +44,17 @@ pub struct MioWorld<R: Net + Clock + Drop, K: Sink + Drop> {
 }
 
 impl<R: Net + Clock + Drop, K: Sink + Drop> MioWorld<R, K> {
-    /// Binds the listeners.
+    /// Binds the listeners. Nothing has happened in the world then.
     pub fn bind(
         rt: R,
         alloc: Global,
         listens: &[Listen],
         access: Access<K>,
         requests: Option<u64>,
-    ) -> Result<MioWorld<R, K>, BindFault> {
+    ) -> Result<MioWorld<R, K>, BindFault>
+        ensures seen { IfOk result (λ w. seen_of w.clock w.waits_failed w.stops w.table ≡ new_seen) }
+        ensures lately { IfOk result (λ w. lately_of w.clocked w.no_more w.table ≡ new_lately) }
+    {
         let table = match Table::new(alloc) {
             Ok(table) => table,
             Err(_) => return Err(BindFault::Memory),
