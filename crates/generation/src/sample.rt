@@ -2,6 +2,7 @@
 ghost use Rattle.std.specs.Prelude.{◌≡◌, ◌∷◌, [], true, IfOk, IfSome};
 ghost use Rattle.generation.specs.Meaning.{plan_of};
 ghost use Rattle.dyn_config.specs.Kept.{is_service};
+ghost use Rattle.dyn_config.specs.Joined.{is_qualified};
 
 use crate::building::{Built, build_generation};
 use crate::generation::Generation;
@@ -30,24 +31,45 @@ pub fn one_router(
 fn merged_of(alloc: Global, router: RouterDef, service: ServiceDef) -> Result<Merged, Memory>
     requires { is_service service ≡ true }
 {
-    let web = Bytes::from_slice(alloc, b"web@file")?;
-    let routers = only(
-        alloc,
-        Entry {
-            name: web,
-            provider: 0,
-            def: router,
-        },
-    )?;
-    let app = Bytes::from_slice(alloc, b"app@file")?;
-    let services = only(
-        alloc,
-        Entry {
-            name: app,
-            provider: 0,
-            def: service,
-        },
-    )?;
+    let app = entry_of(alloc, b"app@file", service)?;
+    merged_with(alloc, router, app)
+}
+
+fn merged_with(
+    alloc: Global,
+    router: RouterDef,
+    app: Entry<ServiceDef>,
+) -> Result<Merged, Memory>
+    requires app { is_qualified app ≡ true }
+    requires service { is_service app.def ≡ true }
+{
+    let web = entry_of(alloc, b"web@file", router)?;
+    joined(alloc, web, app)
+}
+
+// The definition that the file has under this qualified name.
+fn entry_of<D: Drop>(alloc: Global, name: &[u8], def: D) -> Result<Entry<D>, Memory>
+    ensures { IfOk result (λ e. (e.name ≡ name.now) × (e.provider ≡ 0) × (e.def ≡ def)) }
+{
+    let name = Bytes::from_slice(alloc, name)?;
+    Ok(Entry {
+        name,
+        provider: 0,
+        def,
+    })
+}
+
+fn joined(
+    alloc: Global,
+    web: Entry<RouterDef>,
+    app: Entry<ServiceDef>,
+) -> Result<Merged, Memory>
+    requires web { is_qualified web ≡ true }
+    requires app { is_qualified app ≡ true }
+    requires service { is_service app.def ≡ true }
+{
+    let routers = only(alloc, web)?;
+    let services = only(alloc, app)?;
     Ok(Merged {
         routers,
         services,
