@@ -12,8 +12,6 @@ mod read;
 mod route;
 mod serve;
 mod sorting;
-#[cfg(test)]
-mod tests;
 
 pub use command::{Command, RoutePlan, WordFault};
 pub use laws::words_are_made_of_pieces;

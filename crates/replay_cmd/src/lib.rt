@@ -6,8 +6,6 @@ mod config;
 mod cut;
 mod output;
 mod run;
-#[cfg(test)]
-mod tests;
 mod why;
 
 pub use answer::replay;

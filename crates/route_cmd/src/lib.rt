@@ -7,8 +7,6 @@ mod lines;
 mod requests;
 mod route;
 mod routes;
-#[cfg(test)]
-mod tests;
 
 pub use answer::Stop;
 pub use route::answer_route;

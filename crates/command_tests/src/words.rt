@@ -1,5 +1,5 @@
 //! Words that are commands, and words that are none.
-use crate::{Command, WordFault, read_words};
+use command_words::{Command, WordFault, read_words};
 use ip_net::Ip;
 use link_world::{Listen, ServePlan};
 use std::alloc::{AllocError, Global};

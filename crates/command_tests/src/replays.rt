@@ -1,5 +1,5 @@
 //! Whole scripts.
-use crate::replay;
+use replay_cmd::replay;
 use rule_eval::RegexShop;
 use std::alloc::Global;
 use std::process::Abort;
