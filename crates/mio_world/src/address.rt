@@ -1,6 +1,5 @@
 //! Addresses of sockets, and the addresses of this project.
 use ip_net::{Ip, read_ip};
-use mio::net::TcpStream;
 use std::net::{IpAddr, Ipv4Addr, Ipv6Addr, Net, SocketAddr, ToSocketAddrs};
 use std::str;
 
@@ -19,13 +18,12 @@ pub(crate) fn socket_addr(ip: Ip, port: u16) -> SocketAddr {
     }
 }
 
-/// Begins a connection. A name is looked up first, which may take a while. None where it can't begin.
-pub(crate) fn open_stream<R: Net>(rt: &R, host: &[u8], port: u16) -> Option<TcpStream> {
-    let addr = match read_ip(host) {
-        Some(ip) => socket_addr(ip, port),
-        None => look_up(rt, host, port)?,
-    };
-    TcpStream::connect(rt, addr).ok()
+/// The address of a host, which is looked up where it is a name. None where there is none.
+pub(crate) fn address_of<R: Net>(rt: &R, host: &[u8], port: u16) -> Option<SocketAddr> {
+    match read_ip(host) {
+        Some(ip) => Some(socket_addr(ip, port)),
+        None => look_up(rt, host, port),
+    }
 }
 
 fn look_up<R: Net>(rt: &R, host: &[u8], port: u16) -> Option<SocketAddr> {

@@ -2,7 +2,7 @@
 ghost use Rattle.std.specs.Prelude.{◌<◌, length};
 ghost use Rattle.mio_world.specs.Fits.{FitsRead, FitsWrite};
 
-use crate::address::{ip_of, open_stream, socket_addr};
+use crate::address::{address_of, ip_of, socket_addr};
 use crate::table::PLACES;
 use ip_net::Ip;
 use link_world::{LinkRead, LinkWrite, Listen};
@@ -13,7 +13,7 @@ use std::alloc::Global;
 use std::collections::VecDeque;
 use std::io;
 use std::io::{ErrorKind, Read, Write};
-use std::net::{Net, Shutdown};
+use std::net::{Net, Shutdown, SocketAddr};
 use std::time::Duration;
 
 /// How long a closed link waits for the other side's end, in milliseconds.
@@ -64,11 +64,41 @@ const IDLE: Ready = Ready {
     watch: Watch::Nothing,
 };
 
+/// Of a stream that the poll isn't told of yet.
+const NEW: Ready = Ready {
+    writable: true,
+    queued: true,
+    ..IDLE
+};
+
 /// The socket behind a place.
 #[derive(Drop)]
 struct Line {
     ready: Ready,
     stream: Option<TcpStream>,
+    /// Where it is to be dialled: at its first write, so that the first bytes come right behind the dial.
+    to: Option<SocketAddr>,
+}
+
+impl Line {
+    fn new(stream: Option<TcpStream>, ready: Ready) -> Line {
+        Line {
+            ready,
+            stream,
+            to: None,
+        }
+    }
+
+    /// Dials, where that is still to be done.
+    fn connect<R: Net>(&mut self, rt: &R) {
+        let Some(to) = self.to else {
+            return;
+        };
+        self.to = None;
+        self.stream = TcpStream::connect(rt, to).ok();
+        // One that failed is asked, and tells so.
+        self.ready.readable = self.stream.is_none();
+    }
 }
 
 /// A place whose link was closed, and until when it waits.
@@ -117,10 +147,7 @@ impl Sockets {
         let mut lines = Vec::with_capacity(alloc, PLACES)?;
         let mut free = VecDeque::with_capacity(alloc, PLACES)?;
         for at in 0..PLACES {
-            lines.push(Line {
-                ready: IDLE,
-                stream: None,
-            })?;
+            lines.push(Line::new(None, IDLE))?;
             free.push_back(at)?;
         }
         Ok(Sockets {
@@ -171,28 +198,38 @@ impl Sockets {
         Ok(None)
     }
 
-    /// Puts a stream behind a place. None stands for a dial that failed.
-    pub fn admit(&mut self, at: usize, stream: Option<TcpStream>, dialled: bool) {
+    /// Puts a client's stream behind a place.
+    pub fn admit(&mut self, at: usize, stream: TcpStream) {
+        let ready = Ready {
+            readable: true,
+            ..NEW
+        };
+        self.put(at, Line::new(Some(stream), ready));
+    }
+
+    /// Puts a stream behind a place that is dialled at its first write, or at the next wait. A name is looked up first,
+    /// which may take a while.
+    pub fn dial<R: Net>(&mut self, rt: &R, at: usize, host: &[u8], port: u16) {
+        let to = address_of(rt, host, port);
+        let ready = Ready {
+            readable: to.is_none(),
+            dialled: true,
+            ..NEW
+        };
+        let line = Line {
+            ready,
+            stream: None,
+            to,
+        };
+        self.put(at, line);
+    }
+
+    fn put(&mut self, at: usize, line: Line) {
         if at >= self.lines.len() {
             return;
         }
-        self.lines[at] = Line {
-            ready: Ready {
-                readable: !dialled || stream.is_none(),
-                writable: true,
-                dialled,
-                queued: true,
-                ..IDLE
-            },
-            stream,
-        };
+        self.lines[at] = line;
         let _ = self.queue.push(at);
-    }
-
-    /// Dials.
-    pub fn dial<R: Net>(&mut self, rt: &R, at: usize, host: &[u8], port: u16) {
-        let stream = open_stream(rt, host, port);
-        self.admit(at, stream, true);
     }
 
     /// Whether a read of the stream behind a place may give something.
@@ -224,7 +261,7 @@ impl Sockets {
 
     /// Writes to the stream behind a place, unless it is known that it has no room. A stream without
     /// room, of whose room the poll isn't told yet, is put into the queue.
-    pub fn write(&mut self, at: usize, piece: &[u8]) -> LinkWrite
+    pub fn write<R: Net>(&mut self, rt: &R, at: usize, piece: &[u8]) -> LinkWrite
         requires { 0 < length piece.now }
         ensures { FitsWrite result (length piece.now) }
     {
@@ -232,6 +269,7 @@ impl Sockets {
             return LinkWrite::Failed;
         }
         let line = &mut self.lines[at];
+        line.connect(rt);
         let answer = write_line(line, piece);
         let ready = &mut line.ready;
         if !ready.writable && ready.watch != Watch::Both && !ready.queued {
@@ -258,10 +296,7 @@ impl Sockets {
         if at >= self.lines.len() {
             return;
         }
-        self.lines[at] = Line {
-            ready: IDLE,
-            stream: None,
-        };
+        self.lines[at] = Line::new(None, IDLE);
         let _ = self.free.push_back(at);
     }
 
@@ -285,20 +320,24 @@ impl Sockets {
     }
 
     // Tells the poll of the streams in the queue.
-    fn watch_all(&mut self) {
+    fn watch_all<R: Net>(&mut self, rt: &R) {
         for _ in 0..self.queue.len() {
             if let Some(at) = self.queue.pop() {
                 if at < self.lines.len() {
-                    watch_line(&self.poll, at, &mut self.lines[at]);
+                    let line = &mut self.lines[at];
+                    line.connect(rt);
+                    watch_line(&self.poll, at, line);
+                    // One that can't be dialled tells so at once: the wait doesn't block.
+                    self.eager = self.eager || (line.ready.readable && line.stream.is_none());
                 }
             }
         }
     }
 
     /// Waits until a socket is ready or the clock is at `until`, and answers whether that could be done.
-    pub fn wait(&mut self, now: u64, until: u64) -> bool {
+    pub fn wait<R: Net>(&mut self, rt: &R, now: u64, until: u64) -> bool {
         self.expire(now);
-        self.watch_all();
+        self.watch_all(rt);
         let timeout = self.timeout(now, until);
         self.eager = false;
         if self.poll.poll(&mut self.events, timeout).is_err() {

@@ -129,7 +129,7 @@ impl<R: Net + Clock + Drop, K: Sink + Drop> World for MioWorld<R, K> {
             self.waits_failed = self.waits_failed.saturating_add(1);
             return Err(WaitFailed);
         }
-        if !self.sockets.wait(self.clock, until) {
+        if !self.sockets.wait(&self.rt, self.clock, until) {
             self.waits_failed = self.waits_failed.saturating_add(1);
             return Err(WaitFailed);
         }
@@ -160,7 +160,7 @@ impl<R: Net + Clock + Drop, K: Sink + Drop> World for MioWorld<R, K> {
         let Some(link) = self.table.give(at) else {
             return Err(AllocError);
         };
-        self.sockets.admit(at, Some(client.stream), false);
+        self.sockets.admit(at, client.stream);
         Ok(Some(Arrival {
             link,
             entry: client.entry,
@@ -193,7 +193,7 @@ impl<R: Net + Clock + Drop, K: Sink + Drop> World for MioWorld<R, K> {
     }
 
     fn write(&mut self, link: u32, piece: &[u8]) -> LinkWrite {
-        let answer = self.sockets.write(place(link), piece);
+        let answer = self.sockets.write(&self.rt, place(link), piece);
         self.table.did_write(link, answer);
         answer
     }
