@@ -50,6 +50,20 @@ fn expected(number: u64, from: u64, to: u64) -> Met {
     }
 }
 
+// How many requests at one node were pinned, and the places that they take for looks and for picks.
+fn steady<R: Wait>(rt: &R, alloc: Global) -> Result<(u64, usize, usize), Memory> {
+    let mut desk = OneDesk::new(alloc, numbered(alloc, 4)?)?;
+    for _ in 0..9 {
+        request(rt, &mut desk, 3)?;
+    }
+    let seats = &desk.seats;
+    Ok((
+        desk.timeline.newest.pins,
+        seats.looks.len(),
+        seats.picks.len(),
+    ))
+}
+
 #[test]
 fn one_desk(rt: HostRuntime) -> Result<(), Fail> {
     let alloc = rt.alloc();
@@ -59,7 +73,9 @@ fn one_desk(rt: HostRuntime) -> Result<(), Fail> {
     assert_eq!(rt; request(&rt, &mut desk, 0)?, expected(1, 0, 1));
     assert_eq!(rt; request(&rt, &mut desk, 0)?, expected(1, 1, 2));
     assert_eq!(rt; request(&rt, &mut desk, 7)?, expected(1, 0, 1));
+    assert_eq!(rt; request(&rt, &mut desk, 0)?, expected(1, 2, 3));
     desk.retire(1);
     assert_eq!(rt; request(&rt, &mut desk, 0)?, expected(1, 0, 1));
+    assert_eq!(rt; steady(&rt, alloc)?, (9, 1, 1));
     Ok(())
 }
