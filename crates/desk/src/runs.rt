@@ -4,7 +4,7 @@ ghost use Rattle.std.specs.Prelude.{◌≡◌, ◌<◌, ◌++◌, ℕ, IfSome};
 use link_world::Look;
 
 /// Equal looks under a number, one after another.
-#[derive(Clone, Copy, Debug)]
+#[derive(Clone, Copy)]
 pub(crate) struct LookRun {
     pub(crate) number: u64,
     pub(crate) look: Look,
@@ -14,7 +14,7 @@ pub(crate) struct LookRun {
 
 /// Picks under a number at a node, one after another: each pop after pop `from`, up to and with pop `to`, is a pick of the
 /// only server.
-#[derive(Clone, Copy, Debug)]
+#[derive(Clone, Copy)]
 pub(crate) struct PickRun {
     pub(crate) number: u64,
     pub(crate) node: u32,
