@@ -17,8 +17,8 @@ use wrr_deadlines::Drawn;
 
 /// A desk of one thread. Each server counts as up. It stores how often each generation was pinned, runs of equal looks,
 /// and runs of picks that follow one another at a node, so any number of requests at one node take no more memory than
-/// one. Since it tells all looks and picks of a number in their order, a run ends where another node has its turn: several
-/// nodes that take turns have a run of each kind a turn, until their number is retired.
+/// one. Since it tells all looks and picks of a number in their order, a run ends where another node or number has its
+/// turn: where several take turns, each turn takes a run of each kind, until its number is retired.
 #[derive(Drop)]
 pub struct OneDesk {
     pub(crate) timeline: Timeline,
