@@ -1,3 +1,4 @@
 pub mod Numbers
+pub mod Joins
 pub mod Keeps
 pub mod Timelines

@@ -1,37 +1,76 @@
 -- A timeline that grows, and what is pinned of it.
-use Rattle.std.proofs.Common.{◌≡◌, ℕ, ◌+◌, List, [], ◌∷◌, ◌++◌, map, Option, Some, refl, sym, ap, ◌∙◌, subst, append-nil}
+use Rattle.std.proofs.Common.{◌≡◌, ℕ, ◌+◌, inl, List, [], ◌∷◌, ◌++◌, map, Option, Some, refl, sym, ap, ◌∙◌, subst, append-nil, append_assoc}
+use Rattle.std.specs.Prelude.{replicate, Result, Ok, Err, IfOk, OnOk, OnErr, MatchResult}
+use Rattle.std.specs.List.{Contains, flat_map}
+use Rattle.std.proofs.lemmas.Grind.{flat_map-append, replicate_next}
 use Rattle.std.proofs.lemmas.List.{map-append}
 use Rattle.std.proofs.lemmas.List.Elements.{Contains-push}
-use Rattle.std.specs.List.{Contains}
 use Rattle.std.specs.declared.sync.Arc.{Arc}
 use Rattle.std.specs.declared.alloc.Global.{Global}
+use Rattle.std.specs.declared.alloc.AllocError.{AllocError}
 use Rattle.std.specs.Arc.{arc_value}
 use Rattle.conversation.specs.Plans.{Plan}
 use Rattle.generation.specs.Meaning.{plan_of}
 use Rattle.generation.specs.declared.generation.Generation.{Generation}
-use Rattle.desk.specs.Desks.{Desk, Seat, IsNumbered, IsLast, IsGreatest, Pinned, IsHeld, IsAttended, held}
-use Rattle.desk.specs.Issues.{issue_plan, generations_of}
+use Rattle.desk.specs.Desks.{Desk, Seat, IsNumbered, IsLast, IsGreatest, Pinned, Refused, IsHeld, IsAttended, held}
+use Rattle.desk.specs.Issues.{published_plan, generations_of, pins_by, pins_of}
+use Rattle.desk.specs.declared.timeline.Published.{Published}
 use Rattle.desk.proofs.Numbers.{numbered_more, greatest_last}
 
-pub timeline_more : (earlier earlier' : List (Arc Generation Global)) (newest newest' before issue : Arc Generation Global)
-    → earlier' ≡ earlier ++ before ∷ [] → before ≡ newest → newest' ≡ issue → (issue_plan issue).number ≡ (issue_plan newest).number + 1
+pub timeline_more : (earlier earlier' : List Published) (newest newest' before next : Published)
+    → earlier' ≡ earlier ++ before ∷ [] → before ≡ newest → newest' ≡ next → (published_plan next).number ≡ (published_plan newest).number + 1
     → IsNumbered (generations_of earlier newest) → IsNumbered (generations_of earlier' newest')
-timeline_more earlier earlier' newest newest' before issue e b i n h =
-    subst (λ (x : Arc Generation Global). IsNumbered (generations_of earlier' x)) (sym i)
-    (subst (λ (ps : List Plan). IsNumbered (ps ++ issue_plan issue ∷ []))
-    (sym (ap (map issue_plan) e ∙ map-append issue_plan earlier (before ∷ []) ∙ ap (λ (x : Arc Generation Global). map issue_plan earlier ++ issue_plan x ∷ []) b))
-    (numbered_more (map issue_plan earlier) (issue_plan newest) (issue_plan issue) n h))
+timeline_more earlier earlier' newest newest' before next e b i n h =
+    subst (λ (x : Published). IsNumbered (generations_of earlier' x)) (sym i)
+    (subst (λ (ps : List Plan). IsNumbered (ps ++ published_plan next ∷ []))
+    (sym (ap (map published_plan) e ∙ map-append published_plan earlier (before ∷ []) ∙ ap (λ (x : Published). map published_plan earlier ++ published_plan x ∷ []) b))
+    (numbered_more (map published_plan earlier) (published_plan newest) (published_plan next) n h))
 
-pub pinned_by : (earlier : List (Arc Generation Global)) (newest kept issue : Arc Generation Global) (pins pins' : List (Arc Generation Global)) (attended : ℕ → Option Seat)
-    → arc_value kept ≡ arc_value newest → arc_value issue ≡ arc_value newest → pins' ≡ pins ++ kept ∷ [] → IsNumbered (generations_of earlier newest)
-    → Pinned (record { generations = generations_of earlier newest; pins = map issue_plan pins; refused = 0; attended = attended }) (plan_of (arc_value issue))
-    (record { generations = generations_of earlier newest; pins = map issue_plan pins'; refused = 0; attended = attended })
-pinned_by earlier newest kept issue pins pins' attended k i e h = record {
+-- the next generation has no pin
+pub pins_stay : (earlier earlier' : List Published) (newest newest' before : Published)
+    → earlier' ≡ earlier ++ before ∷ [] → before ≡ newest → newest'.pins ≡ 0 → pins_of earlier' newest' ≡ pins_of earlier newest
+pins_stay earlier earlier' newest newest' before e b z =
+    ap (λ (n : ℕ). flat_map pins_by earlier' ++ replicate n (published_plan newest')) z
+    ∙ append-nil (flat_map pins_by earlier')
+    ∙ ap (flat_map pins_by) (e ∙ ap (λ (x : Published). earlier ++ x ∷ []) b)
+    ∙ flat_map-append pins_by earlier (newest ∷ [])
+    ∙ ap (λ (ps : List Plan). flat_map pins_by earlier ++ ps) (append-nil (pins_by newest))
+
+-- one more pin of the newest
+pub pins_more : (earlier : List Published) (newest : Published)
+    → pins_of earlier (record newest { pins = newest.pins + 1 }) ≡ pins_of earlier newest ++ published_plan newest ∷ []
+pins_more earlier newest =
+    ap (λ (ps : List Plan). flat_map pins_by earlier ++ ps) (replicate_next newest.pins (published_plan newest))
+    ∙ sym (append_assoc (flat_map pins_by earlier) (pins_by newest) (published_plan newest ∷ []))
+
+pinned_by : (earlier earlier' : List Published) (newest newest' : Published) (issue : Arc Generation Global) (attended : ℕ → Option Seat)
+    → arc_value issue ≡ arc_value newest'.issue → generations_of earlier' newest' ≡ generations_of earlier newest
+    → pins_of earlier' newest' ≡ pins_of earlier newest ++ published_plan newest' ∷ [] → IsNumbered (generations_of earlier' newest')
+    → Pinned (record { generations = generations_of earlier newest; pins = pins_of earlier newest; refused = 0; attended = attended }) (plan_of (arc_value issue))
+    (record { generations = generations_of earlier' newest'; pins = pins_of earlier' newest'; refused = 0; attended = attended })
+pinned_by earlier earlier' newest newest' issue attended i g e h = record {
   same = refl;
-  grew = ([], sym (append-nil (generations_of earlier newest)));
-  last = (map issue_plan earlier, ap (λ (g : Generation). map issue_plan earlier ++ plan_of g ∷ []) (sym i));
-  greatest = subst (λ (g : Generation). IsGreatest (generations_of earlier newest) (plan_of g)) (sym i) (greatest_last (map issue_plan earlier) (issue_plan newest) h);
-  pins = ap (map issue_plan) e ∙ map-append issue_plan pins (kept ∷ []) ∙ ap (λ (g : Generation). map issue_plan pins ++ plan_of g ∷ []) (k ∙ sym i);
+  grew = ([], g ∙ sym (append-nil (generations_of earlier newest)));
+  last = (map published_plan earlier', ap (λ (x : Generation). map published_plan earlier' ++ plan_of x ∷ []) (sym i));
+  greatest = subst (λ (x : Generation). IsGreatest (generations_of earlier' newest') (plan_of x)) (sym i) (greatest_last (map published_plan earlier') (published_plan newest') h);
+  pins = e ∙ ap (λ (x : Generation). pins_of earlier newest ++ plan_of x ∷ []) (sym i);
+}
+
+-- a pin, and a refused one, which adds none
+pub pinned_or : (earlier earlier' : List Published) (newest newest' : Published) (attended : ℕ → Option Seat) (result : Result (Arc Generation Global) AllocError)
+    → IfOk result (λ issue. arc_value issue ≡ arc_value newest'.issue) → generations_of earlier' newest' ≡ generations_of earlier newest
+    → OnOk result (pins_of earlier' newest' ≡ pins_of earlier newest ++ published_plan newest' ∷ []) → OnErr result (pins_of earlier' newest' ≡ pins_of earlier newest)
+    → IsNumbered (generations_of earlier' newest')
+    → MatchResult result
+    (λ issue. Pinned (record { generations = generations_of earlier newest; pins = pins_of earlier newest; refused = 0; attended = attended }) (plan_of (arc_value issue))
+    (record { generations = generations_of earlier' newest'; pins = pins_of earlier' newest'; refused = 0; attended = attended }))
+    (λ error. Refused (record { generations = generations_of earlier newest; pins = pins_of earlier newest; refused = 0; attended = attended })
+    (record { generations = generations_of earlier' newest'; pins = pins_of earlier' newest'; refused = 0; attended = attended }))
+pinned_or earlier earlier' newest newest' attended (Ok issue) i g p e h = pinned_by earlier earlier' newest newest' issue attended i g p h
+pinned_or earlier earlier' newest newest' attended (Err error) i g p e h = record {
+  same = refl;
+  grew = ([], g ∙ sym (append-nil (generations_of earlier newest)));
+  counted = inl (e, refl);
 }
 
 pub last_among : (ps : List Plan) (p : Plan) → IsLast ps p → Contains ps p

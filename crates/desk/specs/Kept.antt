@@ -1,34 +1,22 @@
--- What a desk of one thread means, by the lists that it stores.
-use Rattle.std.specs.Prelude.{ℕ, ◌==◌, ◌-◌, List, [], ◌∷◌, map, Option, Some, None, if◌then◌else◌, vec_len, vec_capacity}
+-- What a desk of one thread means, by the runs that it stores.
+use Rattle.std.specs.Prelude.{ℕ, ◌==◌, ◌-◌, List, Option, Some, None, if◌then◌else◌, vec_len, vec_capacity}
 use Rattle.std.specs.List.{flat_map, list_any}
 use Rattle.conversation.specs.Plans.{Plan}
 use Rattle.link_world.specs.declared.note.Look.{Look}
 use Rattle.link_world.specs.declared.note.NodePick.{NodePick}
-use Rattle.link_world.specs.Log.{only_if}
 use Rattle.desk.specs.Desks.{Seat, Desk, Room}
-use Rattle.desk.specs.Issues.{issue_plan, generations_of}
-use Rattle.desk.specs.declared.seats.Looked.{Looked}
-use Rattle.desk.specs.declared.seats.Picked.{Picked}
+use Rattle.desk.specs.Issues.{published_plan, generations_of, pins_of}
+use Rattle.desk.specs.Runs.{look_by, pick_by, last_end}
+use Rattle.desk.specs.declared.runs.LookRun.{LookRun}
+use Rattle.desk.specs.declared.runs.PickRun.{PickRun}
 use Rattle.desk.specs.declared.seats.Seats.{Seats}
 use Rattle.desk.specs.declared.one.OneDesk.{OneDesk}
-
--- the looks and the picks of one number
-abbrev pub look_by : ℕ → Looked → List Look
-look_by number x = only_if (x.number == number) (x.look ∷ [])
-
-abbrev pub pick_by : ℕ → Picked → List NodePick
-pick_by number x = only_if (x.number == number) (x.pick ∷ [])
-
--- where the last pick at the node ends, or else this count
-abbrev pub last_end : ℕ → ℕ → List NodePick → ℕ
-last_end node count [] = count
-last_end node count (p ∷ ps) = last_end node (if p.node == node then p.pick.to else count) ps
 
 abbrev pub seat_of : List Look → List NodePick → Seat
 seat_of looks picks = record { looks = looks; picks = picks; count = λ node. last_end node 0 picks }
 
 -- the seat of a number that is among these
-abbrev pub seat_in : List ℕ → List Looked → List Picked → ℕ → Option Seat
+abbrev pub seat_in : List ℕ → List LookRun → List PickRun → ℕ → Option Seat
 seat_in numbers looks picks number =
     if list_any (λ n. n == number) numbers then Some (seat_of (flat_map (look_by number) looks) (flat_map (pick_by number) picks)) else None
 
@@ -42,11 +30,11 @@ room_of s = record { looks = vec_capacity s.looks - vec_len s.looks; picks = vec
 abbrev pub desk_of : OneDesk → Desk
 desk_of d = record {
   generations = generations_of d.timeline.earlier.items d.timeline.newest;
-  pins = map issue_plan d.pins.items;
+  pins = pins_of d.timeline.earlier.items d.timeline.newest;
   refused = 0;
   attended = seats_of d.seats;
 }
 
 -- the last of the generations
 abbrev pub newest_plan : OneDesk → Plan
-newest_plan d = issue_plan d.timeline.newest
+newest_plan d = published_plan d.timeline.newest

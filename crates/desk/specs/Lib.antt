@@ -1,3 +1,4 @@
 pub mod Desks
 pub mod Issues
 pub mod Kept
+pub mod Runs

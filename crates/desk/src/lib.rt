@@ -4,6 +4,7 @@
 
 mod laws;
 mod one;
+mod runs;
 mod seats;
 mod server;
 mod shared;

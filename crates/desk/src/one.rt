@@ -15,12 +15,14 @@ use std::alloc::Global;
 use std::sync::{Arc, Wait};
 use wrr_deadlines::Drawn;
 
-/// A desk of one thread. It stores all that it tells, and grows with its requests. Each server counts as up.
+/// A desk of one thread. Each server counts as up. It stores how often each generation was pinned, runs of equal looks,
+/// and runs of picks that follow one another at a node, so any number of requests at one node take no more memory than
+/// one. Since it tells all looks and picks of a number in their order, a run ends where another node or number has its
+/// turn: where several take turns, each turn takes a run of each kind, until its number is retired.
 #[derive(Drop)]
 pub struct OneDesk {
-    timeline: Timeline,
-    pins: Vec<Arc<Generation, Global>>,
-    seats: Seats,
+    pub(crate) timeline: Timeline,
+    pub(crate) seats: Seats,
     server: OneServer,
 }
 
@@ -35,7 +37,6 @@ impl OneDesk {
         let server = OneServer::new(alloc)?;
         Ok(OneDesk {
             timeline: Timeline::new(alloc, first),
-            pins: Vec::new(alloc),
             seats: Seats::new(alloc),
             server,
         })
@@ -45,7 +46,7 @@ impl OneDesk {
     pub fn number(&self) -> u64
         ensures { result ≡ (newest_plan self.now).number }
     {
-        self.timeline.newest.number()
+        self.timeline.newest.issue.number()
     }
 
     /// Adds the next generation. Its number is one more than that of the last one.
@@ -66,11 +67,7 @@ impl Shared for OneDesk {
     ghost room = { λ d. room_of d.seats };
 
     fn pin(&mut self) -> Result<Arc<Generation, Global>, Memory> {
-        self.pins.reserve(1)?;
-        let kept = self.timeline.last()?;
-        let issue = self.timeline.last()?;
-        self.pins.push_reserved(kept);
-        Ok(issue)
+        self.timeline.pin()
     }
 
     fn attend<R: Wait>(&mut self, rt: &R, issue: &Arc<Generation, Global>) -> Result<(), Memory> {

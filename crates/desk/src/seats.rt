@@ -1,35 +1,24 @@
 // What was looked at and drawn under each number that is attended.
-ghost use Rattle.std.specs.Prelude.{◌≡◌, ◌≢◌, ◌<◌, ◌≤◌, ℕ, Some, None, OnOk, OnErr, not, ◌==◌, ◌&&◌, filter, vec_len, vec_capacity};
-ghost use Rattle.std.specs.List.{flat_map, list_any};
+ghost use Rattle.std.specs.Prelude.{◌≡◌, ◌≢◌, ◌<◌, ◌≤◌, ℕ, Some, None, OnOk, OnErr, not, ◌==◌, ◌&&◌, ◌+◌, ◌++◌, filter, vec_len, vec_capacity};
+ghost use Rattle.std.specs.List.{flat_map};
 ghost use Rattle.desk.specs.Desks.{IsHeld, held, with_look, DrawDid, RoomLeft};
-ghost use Rattle.desk.specs.Kept.{seats_of, room_of, pick_by, last_end};
+ghost use Rattle.desk.specs.Kept.{seats_of, room_of};
+ghost use Rattle.desk.specs.Runs.{look_by, pick_by, last_end};
 
+use crate::runs::{LookRun, PickRun};
 use crate::server::OneServer;
-use link_world::{Look, NodePick};
+use link_world::Look;
 use px_base::Memory;
 use std::alloc::Global;
 use wrr_deadlines::Drawn;
 
-/// A look under a number.
-#[derive(Clone, Copy, Debug)]
-pub(crate) struct Looked {
-    pub(crate) number: u64,
-    pub(crate) look: Look,
-}
-
-/// A pick under a number.
-#[derive(Clone, Copy, Debug)]
-pub(crate) struct Picked {
-    pub(crate) number: u64,
-    pub(crate) pick: NodePick,
-}
-
-/// The numbers that are attended, and the looks and picks of all of them in order.
+/// The numbers that are attended, and the looks and picks of all of them in order. What goes on with the last run of its
+/// list takes no place of its own.
 #[derive(Drop)]
 pub(crate) struct Seats {
     pub(crate) numbers: Vec<u64>,
-    pub(crate) looks: Vec<Looked>,
-    pub(crate) picks: Vec<Picked>,
+    pub(crate) looks: Vec<LookRun>,
+    pub(crate) picks: Vec<PickRun>,
 }
 
 impl Seats {
@@ -71,7 +60,12 @@ impl Seats {
         ensures others { (n : ℕ) → n ≢ number → seats_of self.new n ≡ seats_of self.old n }
         ensures room { RoomLeft (room_of self.old) 1 0 (room_of self.new) }
     {
-        self.looks.push_reserved(Looked { number, look });
+        let next = LookRun {
+            number,
+            look,
+            count: 1,
+        };
+        keep_looks(&mut self.looks, next);
     }
 
     /// Draws at a node, by the pops that were taken there, and keeps the pick.
@@ -86,8 +80,13 @@ impl Seats {
         let count = count_at(self.picks.as_slice(), number, node);
         let drawn = server.draw(count, mask);
         if let Drawn::Pick(pick) = drawn {
-            let pick = NodePick { node, pick };
-            self.picks.push_reserved(Picked { number, pick });
+            let next = PickRun {
+                number,
+                node,
+                from: pick.from,
+                to: pick.to,
+            };
+            keep_picks(&mut self.picks, next);
         }
         drawn
     }
@@ -110,7 +109,7 @@ fn forget_number(numbers: &mut Vec<u64>, number: u64)
     numbers.retain(|held| *held != number);
 }
 
-fn forget_looks(looks: &mut Vec<Looked>, number: u64)
+fn forget_looks(looks: &mut Vec<LookRun>, number: u64)
     ensures items { looks.new.items ≡ filter (λ x. not (x.number == number)) looks.old.items }
     ensures len { vec_len looks.new ≤ vec_len looks.old }
     ensures capacity { vec_capacity looks.new ≡ vec_capacity looks.old }
@@ -118,7 +117,7 @@ fn forget_looks(looks: &mut Vec<Looked>, number: u64)
     looks.retain(|held| held.number != number);
 }
 
-fn forget_picks(picks: &mut Vec<Picked>, number: u64)
+fn forget_picks(picks: &mut Vec<PickRun>, number: u64)
     ensures items { picks.new.items ≡ filter (λ x. not (x.number == number)) picks.old.items }
     ensures len { vec_len picks.new ≤ vec_len picks.old }
     ensures capacity { vec_capacity picks.new ≡ vec_capacity picks.old }
@@ -126,23 +125,61 @@ fn forget_picks(picks: &mut Vec<Picked>, number: u64)
     picks.retain(|held| held.number != number);
 }
 
+// Adds looks. Where they go on with the last run, they take no place.
+fn keep_looks(runs: &mut Vec<LookRun>, next: LookRun)
+    requires { vec_len runs.old < vec_capacity runs.old }
+    ensures looks { (n : ℕ) → flat_map (look_by n) runs.new.items ≡ flat_map (look_by n) runs.old.items ++ look_by n next }
+    ensures len { vec_len runs.new ≤ vec_len runs.old + 1 }
+    ensures capacity { vec_capacity runs.new ≡ vec_capacity runs.old }
+{
+    let Some(last) = runs.pop() else {
+        runs.push_reserved(next);
+        return;
+    };
+    let Some(run) = last.joined(next) else {
+        runs.push_reserved(last);
+        runs.push_reserved(next);
+        return;
+    };
+    runs.push_reserved(run);
+}
+
+// Adds picks. Where they go on with the last run, they take no place.
+fn keep_picks(runs: &mut Vec<PickRun>, next: PickRun)
+    requires { vec_len runs.old < vec_capacity runs.old }
+    ensures picks { (n : ℕ) → flat_map (pick_by n) runs.new.items ≡ flat_map (pick_by n) runs.old.items ++ pick_by n next }
+    ensures len { vec_len runs.new ≤ vec_len runs.old + 1 }
+    ensures capacity { vec_capacity runs.new ≡ vec_capacity runs.old }
+{
+    let Some(last) = runs.pop() else {
+        runs.push_reserved(next);
+        return;
+    };
+    let Some(run) = last.joined(next) else {
+        runs.push_reserved(last);
+        runs.push_reserved(next);
+        return;
+    };
+    runs.push_reserved(run);
+}
+
 // Where the last pick of this number at the node ends. It looks from the back, where that pick mostly stands, so that a
 // draw takes no longer the more were made.
-fn count_at(picks: &[Picked], number: u64, node: u32) -> u64
-    ensures { result ≡ last_end node 0 (flat_map (pick_by number) picks.now) }
+fn count_at(runs: &[PickRun], number: u64, node: u32) -> u64
+    ensures { result ≡ last_end node 0 (flat_map (pick_by number) runs.now) }
 {
-    let mut rest = picks;
-    'picks: while let Some((last, before)) = rest.split_last() {
+    let mut rest = runs;
+    'runs: while let Some((last, before)) = rest.split_last() {
         if is_at(last, number, node) {
-            return last.pick.pick.to;
+            return last.to;
         }
         rest = before;
     }
     0
 }
 
-fn is_at(held: &Picked, number: u64, node: u32) -> bool
-    ensures { result ≡ ((held.now.number == number) && (held.now.pick.node == node)) }
+fn is_at(run: &PickRun, number: u64, node: u32) -> bool
+    ensures { result ≡ ((run.now.number == number) && (run.now.node == node)) }
 {
-    held.number == number && held.pick.node == node
+    run.number == number && run.node == node
 }

@@ -50,16 +50,45 @@ fn expected(number: u64, from: u64, to: u64) -> Met {
     }
 }
 
+// How many requests at one node were pinned, and the places that they take for looks and for picks.
+fn steady<R: Wait>(rt: &R, alloc: Global) -> Result<(u64, usize, usize), Memory> {
+    let mut desk = OneDesk::new(alloc, numbered(alloc, 4)?)?;
+    for _ in 0..9 {
+        request(rt, &mut desk, 3)?;
+    }
+    let seats = &desk.seats;
+    Ok((
+        desk.timeline.newest.pins,
+        seats.looks.len(),
+        seats.picks.len(),
+    ))
+}
+
+// What is met at a node, at another one, at the first again, and after the number was given up.
+fn by_turns<R: Wait>(rt: &R, desk: &mut OneDesk) -> Result<[Met; 5], Memory> {
+    let first = request(rt, desk, 0)?;
+    let second = request(rt, desk, 0)?;
+    let other = request(rt, desk, 7)?;
+    let third = request(rt, desk, 0)?;
+    desk.retire(1);
+    let anew = request(rt, desk, 0)?;
+    Ok([first, second, other, third, anew])
+}
+
 #[test]
 fn one_desk(rt: HostRuntime) -> Result<(), Fail> {
     let alloc = rt.alloc();
     let mut desk = OneDesk::new(alloc, numbered(alloc, 0)?)?;
     desk.publish(numbered(alloc, 1)?)?;
     assert_eq!(rt; desk.number(), 1);
-    assert_eq!(rt; request(&rt, &mut desk, 0)?, expected(1, 0, 1));
-    assert_eq!(rt; request(&rt, &mut desk, 0)?, expected(1, 1, 2));
-    assert_eq!(rt; request(&rt, &mut desk, 7)?, expected(1, 0, 1));
-    desk.retire(1);
-    assert_eq!(rt; request(&rt, &mut desk, 0)?, expected(1, 0, 1));
+    let wanted = [
+        expected(1, 0, 1),
+        expected(1, 1, 2),
+        expected(1, 0, 1),
+        expected(1, 2, 3),
+        expected(1, 0, 1),
+    ];
+    assert_eq!(rt; by_turns(&rt, &mut desk)?, wanted);
+    assert_eq!(rt; steady(&rt, alloc)?, (9, 1, 1));
     Ok(())
 }

@@ -1,4 +1,4 @@
-use Rattle.std.proofs.Common.{ℕ, ap, ◌∙◌, arith}
+use Rattle.std.proofs.Common.{ap, ◌∙◌, arith}
 use Rattle.generation.specs.Meaning.{plan_of}
 use Rattle.generation.specs.declared.generation.Generation.{Generation}
 use Rattle.desk.proofs.Timelines.{last_among, held_some, attended_by}
