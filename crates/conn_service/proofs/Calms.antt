@@ -121,12 +121,12 @@ finished_closed : (d : Conn) → IsFinished d → IsOpen d → ⊥
 finished_closed d done opened = subst IsTold opened done.1
 
 -- calm after its notes were told
-pub calm_told : {T E : Type 0} (r : Result T E) {l m n : Lately} (b d : Conn) → IsOpen b ⊎ IsEnding b.phase → Calm l b → (IsOpen b → m ≡ l) → n ≡ m
-    → OnOk r (IsOpen b → d ≡ record b { notes = d.notes }) → OnOk r (IsEnding b.phase → IsFinished d) → OnOk r (Calm n d)
-calm_told (Err e) b d kept calm hung told same done = tt
-calm_told (Ok x) {l} {m} {n} b d (inl opened) calm hung told same done =
-    subst (λ (y : Conn). Calm n y) (sym (same opened)) (subst (λ (y : Lately). Calm y (record b { notes = d.notes })) (sym (told ∙ hung opened)) (calm_notes l b d.notes calm))
-calm_told (Ok x) {l} {m} {n} b d (inr end) calm hung told same done = calm_closed (finished_closed d (done end))
+pub calm_told : {T E : Type 0} (r : Result T E) {l m : Lately} (b d : Conn) → IsOpen b ⊎ IsEnding b.phase → Calm l b → (IsOpen b → m ≡ l)
+    → OnOk r (IsOpen b → d ≡ record b { notes = d.notes }) → OnOk r (IsEnding b.phase → IsFinished d) → OnOk r (Calm m d)
+calm_told (Err e) b d kept calm stays same done = tt
+calm_told (Ok x) {l} {m} b d (inl opened) calm stays same done =
+    subst (λ (y : Conn). Calm m y) (sym (same opened)) (subst (λ (y : Lately). Calm y (record b { notes = d.notes })) (sym (stays opened)) (calm_notes l b d.notes calm))
+calm_told (Ok x) {l} {m} b d (inr end) calm stays same done = calm_closed (finished_closed d (done end))
 
 -- ready after its notes were told
 pub ready_told : {T E : Type 0} (r : Result T E) (s : Seen) {l : Lately} (generations : List Plan) (b d : Conn) → IsOpen b ⊎ IsEnding b.phase → Calm l b

@@ -4,3 +4,4 @@ pub mod Desks
 pub mod Wents
 pub mod Counts
 pub mod Calms
+pub mod Stretches

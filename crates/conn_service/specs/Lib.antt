@@ -1,5 +1,6 @@
 pub mod Moments
 pub mod Choices
+pub mod Stretches
 pub mod Pins
 pub mod Arrivals
 pub mod Went

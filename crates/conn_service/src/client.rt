@@ -1,13 +1,14 @@
 //! The client's link is read and written.
-ghost use Rattle.std.specs.Prelude.{◌≡◌, ◌≢◌, ◌≤◌, ◌<◌, ◌+◌, [], length, true, false, IfOk, OnOk, IfNone, IfSome, vec_len, vec_capacity};
-ghost use Rattle.link_world.specs.Lately.{Lately};
+ghost use Rattle.std.specs.Prelude.{◌≡◌, ◌≢◌, ◌≤◌, ◌<◌, ℕ, [], length, true, false, IfOk, OnOk, IfNone, IfSome, vec_len, vec_capacity};
+ghost use Rattle.link_world.specs.Lately.{Lately, ReadLately};
+ghost use Rattle.link_world.specs.Seen.{Seen, ReadDid};
 ghost use Rattle.desk.specs.Desks.{Desk};
 ghost use Rattle.conn_machine.specs.Prompt.{IsPrompt};
 ghost use Rattle.conn_machine.specs.Reached.{IsOpen, KeepsServer, pending_of};
 ghost use Rattle.conn_service.specs.Moments.{moment, Linked};
 ghost use Rattle.conn_service.specs.Went.{Went};
-ghost use Rattle.conn_service.specs.Calm.{ReadDone, IsRead};
-ghost use Rattle.conn_service.specs.Counts.{Counted, Stays};
+ghost use Rattle.conn_service.specs.Calm.{ReadDone};
+ghost use Rattle.conn_service.specs.Counts.{Counted, SameWork, Stays};
 ghost use Rattle.conn_service.specs.declared.turn.Reads.{Reads as ReadsOf};
 
 use crate::turn::{READS, ROOM, Reads};
@@ -39,11 +40,12 @@ pub(crate) fn receive<W: World>(
         return Ok(false);
     };
     reads.client += 1;
-    receive_into(conn, alloc, world, &mut buffer[..room])
+    let read = read_client(conn, world, buffer, room);
+    take_read(conn, alloc, buffer, read)
 }
 
-// How many bytes of the client may still wait, where its link may be read.
-fn room_for(conn: &Conn, reads: &Reads) -> Option<usize>
+/// How many bytes of the client may still wait, where its link may be read.
+pub(crate) fn room_for(conn: &Conn, reads: &Reads) -> Option<usize>
     ensures none { IfNone result ((l : Lately) → Counted reads.now l conn.now → IsOpen conn.now → ReadDone l conn.now) }
     ensures some { IfSome result (λ room. IsOpen conn.now × (0 < room) × (room ≤ 32768) × (reads.now.client < 64)) }
 {
@@ -63,28 +65,43 @@ fn room_for(conn: &Conn, reads: &Reads) -> Option<usize>
     Some(ROOM - held)
 }
 
-// Reads the client's link once into this room.
-fn receive_into<W: World>(
+/// Reads so many bytes of the client's link at most, to the front of the buffer.
+pub(crate) fn read_client<W: World>(
+    conn: &Conn,
+    world: &mut W,
+    buffer: &mut [u8],
+    room: usize,
+) -> LinkRead
+    requires linked { Linked (W.seen world.old) conn.now }
+    requires open { IsOpen conn.now }
+    requires some { 0 < room }
+    requires most { room ≤ length buffer.old }
+    ensures seen { ReadDid (W.seen world.old) conn.now.client.link result buffer.new (W.seen world.new) }
+    ensures lately { ReadLately (W.lately world.old) conn.now.client.link result (W.lately world.new) }
+{
+    world.read(conn.client.link, &mut buffer[..room])
+}
+
+/// Tells a connection what a read of its client's link answered. Answers whether anything came of it.
+pub(crate) fn take_read(
     conn: &mut Conn,
     alloc: Global,
-    world: &mut W,
-    room: &mut [u8],
+    buffer: &[u8],
+    read: LinkRead,
 ) -> Result<bool, Memory>
-    requires linked { Linked (W.seen world.old) conn.old }
     requires open { IsOpen conn.old }
-    requires some { 0 < length room.old }
-    ensures went { (g : Desk) → Went ⊥ (moment (W.seen world.old) (W.lately world.old) g conn.old)
-        (moment (W.seen world.new) (W.lately world.new) g conn.new) }
+    requires within { (n : ℕ) → read ≡ LinkRead.Got n → n ≤ length buffer.now }
+    ensures went { (s t : Seen) (l m : Lately) (g : Desk) → Linked s conn.old → ReadDid s conn.old.client.link read buffer.now t
+        → ReadLately l conn.old.client.link read m → Went ⊥ (moment s l g conn.old) (moment t m g conn.new) }
+    ensures client { conn.new.client ≡ conn.old.client }
+    ensures number { conn.new.current.number ≡ conn.old.current.number }
     ensures server { KeepsServer conn.old conn.new }
     ensures prompt { IsPrompt conn.old → OnOk result (IsPrompt conn.new) }
-    ensures counted { (r : ReadsOf) → r.client < 64 → Counted r (W.lately world.old) conn.old
-        → Counted (record r { client = r.client + 1 }) (W.lately world.new) conn.new }
-    ensures still { IfOk result (λ moved. moved ≡ false
-        → Stays (W.lately world.old) (W.lately world.new) conn.old conn.new × IsRead (W.lately world.new) conn.new.client.link) }
+    ensures still { IfOk result (λ moved. moved ≡ false → (read ≡ LinkRead.NotYet) × SameWork conn.old conn.new) }
 {
-    match world.read(conn.client.link, room) {
+    match read {
         LinkRead::Got(n) => {
-            conn.bytes(alloc, &room[..n])?;
+            conn.bytes(alloc, &buffer[..n])?;
             Ok(true)
         }
         LinkRead::NotYet => {

@@ -4,6 +4,7 @@
 
 mod choose;
 mod client;
+mod laws;
 mod links;
 mod server;
 mod service;
@@ -11,5 +12,9 @@ mod service;
 mod tests;
 mod turn;
 
+pub use laws::{
+    choices_of_two_parts, looks_are_under_the_pin_before, picks_are_under_the_pin_before,
+    steps_are_cut_at_pins, the_last_pin_gives_the_number,
+};
 pub use service::{quit, serve, stop};
 pub use turn::ROOM;

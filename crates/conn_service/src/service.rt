@@ -1,18 +1,22 @@
 //! What a worker does with one connection in a turn, where it stops and where it finds no memory.
-ghost use Rattle.std.specs.Prelude.{◌≡◌, ◌⊎◌, [], IsTrue, OnOk, OnErr};
+ghost use Rattle.std.specs.Prelude.{◌≡◌, ◌⊎◌, ◌<◌, ◌≤◌, ℕ, [], IsTrue, OnOk, OnErr, OnSome, IfSome};
+ghost use Rattle.link_world.specs.Seen.{Seen, ReadDid};
+ghost use Rattle.link_world.specs.Lately.{Lately, ReadLately};
 ghost use Rattle.desk.specs.Desks.{Desk};
 ghost use Rattle.conn_machine.specs.Prompt.{IsPrompt};
-ghost use Rattle.conn_machine.specs.Reached.{IsOpen, IsFinished, IsEnding, notes_left};
+ghost use Rattle.conn_machine.specs.Reached.{IsOpen, IsFinished, IsEnding, Waits, pending_of};
 ghost use Rattle.conn_service.specs.Moments.{moment, Linked, IsTracked, IsReady};
 ghost use Rattle.conn_service.specs.Pins.{IsBelow};
 ghost use Rattle.conn_service.specs.Went.{Went, Lost};
 ghost use Rattle.conn_service.specs.Calm.{Calm};
+ghost use Rattle.conn_service.specs.Counts.{Counted};
 
+use crate::client::{answer, read_client, room_for, take_read};
 use crate::links::{hang_up, release, server_of};
-use crate::turn::{ROOM, work};
-use conn_machine::Conn;
+use crate::turn::{ROOM, Reads, UNREAD, work};
+use conn_machine::{Conn, Stage};
 use desk::Shared;
-use link_world::World;
+use link_world::{LinkRead, World};
 use px_base::Memory;
 use std::alloc::Global;
 use std::sync::Wait;
@@ -38,9 +42,71 @@ pub fn serve<R: Wait, W: World, S: Shared>(
     ensures told { OnOk result (conn.new.notes.items ≡ []) }
     ensures calm { OnOk result (Calm (W.lately world.new) conn.new) }
 {
-    attempt(conn, rt, alloc, world, shared, buffer);
-    hang_up(conn, world);
-    tell(conn, alloc, world)
+    match idle_room(conn) {
+        Some(room) => serve_idle(conn, rt, alloc, world, shared, buffer, room),
+        None => serve_busy(conn, rt, alloc, world, shared, buffer),
+    }
+}
+
+// Serves a connection that may have something to do.
+fn serve_busy<R: Wait, W: World, S: Shared>(
+    conn: &mut Conn,
+    rt: &R,
+    alloc: Global,
+    world: &mut W,
+    shared: &mut S,
+    buffer: &mut [u8; ROOM],
+) -> Result<(), Memory>
+    requires ready { IsReady (W.seen world.old) (S.desk shared.old).generations conn.old }
+    requires tracked { IsTracked (W.seen world.old) conn.old }
+    ensures went { OnOk result (Went ⊥ (moment (W.seen world.old) (W.lately world.old) (S.desk shared.old) conn.old)
+        (moment (W.seen world.new) (W.lately world.new) (S.desk shared.new) conn.new)) }
+    ensures lost { OnErr result (Lost ⊥ (moment (W.seen world.old) (W.lately world.old) (S.desk shared.old) conn.old)
+        (W.seen world.new) (W.lately world.new) (S.desk shared.new)) }
+    ensures ready { OnOk result (IsFinished conn.new ⊎ IsReady (W.seen world.new) (S.desk shared.new).generations conn.new) }
+    ensures told { OnOk result (conn.new.notes.items ≡ []) }
+    ensures calm { OnOk result (Calm (W.lately world.new) conn.new) }
+{
+    attempt(conn, rt, alloc, world, shared, buffer, UNREAD);
+    close_and_tell(conn, alloc, world)
+}
+
+// Serves a connection that waits for its next request. Mostly its client gives nothing, and that is all.
+fn serve_idle<R: Wait, W: World, S: Shared>(
+    conn: &mut Conn,
+    rt: &R,
+    alloc: Global,
+    world: &mut W,
+    shared: &mut S,
+    buffer: &mut [u8; ROOM],
+    room: usize,
+) -> Result<(), Memory>
+    requires ready { IsReady (W.seen world.old) (S.desk shared.old).generations conn.old }
+    requires tracked { IsTracked (W.seen world.old) conn.old }
+    requires waits { Waits Stage.Head conn.old }
+    requires pending { pending_of conn.old ≡ [] }
+    requires notes { conn.old.notes.items ≡ [] }
+    requires some { 0 < room }
+    requires most { room ≤ 32768 }
+    ensures went { OnOk result (Went ⊥ (moment (W.seen world.old) (W.lately world.old) (S.desk shared.old) conn.old)
+        (moment (W.seen world.new) (W.lately world.new) (S.desk shared.new) conn.new)) }
+    ensures lost { OnErr result (Lost ⊥ (moment (W.seen world.old) (W.lately world.old) (S.desk shared.old) conn.old)
+        (W.seen world.new) (W.lately world.new) (S.desk shared.new)) }
+    ensures ready { OnOk result (IsFinished conn.new ⊎ IsReady (W.seen world.new) (S.desk shared.new).generations conn.new) }
+    ensures told { OnOk result (conn.new.notes.items ≡ []) }
+    ensures calm { OnOk result (Calm (W.lately world.new) conn.new) }
+{
+    let read = read_client(conn, world, buffer, room);
+    match read {
+        LinkRead::NotYet => {
+            conn.rest();
+            Ok(())
+        }
+        _ => {
+            attempt_after(conn, rt, alloc, world, shared, buffer, read);
+            close_and_tell(conn, alloc, world)
+        }
+    }
 }
 
 /// Ends a connection where the worker stops, closes its links and tells its notes.
@@ -54,8 +120,7 @@ pub fn stop<W: World>(conn: &mut Conn, alloc: Global, world: &mut W) -> Result<(
     ensures finished { OnOk result (IsFinished conn.new) }
 {
     halt(conn, world);
-    hang_up(conn, world);
-    tell(conn, alloc, world)
+    close_and_tell(conn, alloc, world)
 }
 
 /// Ends a connection where the worker found no memory, closes its links and tells its notes.
@@ -69,11 +134,10 @@ pub fn quit<W: World>(conn: &mut Conn, alloc: Global, world: &mut W) -> Result<(
     ensures finished { OnOk result (IsFinished conn.new) }
 {
     give_up(conn, world);
-    hang_up(conn, world);
-    tell(conn, alloc, world)
+    close_and_tell(conn, alloc, world)
 }
 
-// Serves a connection, and gives it up where it found no memory.
+// Serves a connection after so many reads, and gives it up where it found no memory.
 fn attempt<R: Wait, W: World, S: Shared>(
     conn: &mut Conn,
     rt: &R,
@@ -81,16 +145,18 @@ fn attempt<R: Wait, W: World, S: Shared>(
     world: &mut W,
     shared: &mut S,
     buffer: &mut [u8; ROOM],
+    reads: Reads,
 )
     requires linked { Linked (W.seen world.old) conn.old }
     requires below { IsBelow (S.desk shared.old).generations conn.old.current.number }
     requires prompt { IsPrompt conn.old }
+    requires counted { Counted reads (W.lately world.old) conn.old }
     ensures went { Went ⊥ (moment (W.seen world.old) (W.lately world.old) (S.desk shared.old) conn.old)
         (moment (W.seen world.new) (W.lately world.new) (S.desk shared.new) conn.new) }
     ensures kept { IsOpen conn.new ⊎ IsEnding conn.new.phase }
     ensures calm { Calm (W.lately world.new) conn.new }
 {
-    let Ok(()) = work(conn, rt, alloc, world, shared, buffer) else {
+    let Ok(()) = work(conn, rt, alloc, world, shared, buffer, reads) else {
         give_up(conn, world);
         return;
     };
@@ -98,6 +164,43 @@ fn attempt<R: Wait, W: World, S: Shared>(
         return;
     }
     give_up(conn, world);
+}
+
+// Serves a connection whose client's link was read once, with this answer, and gives it up where it found no memory.
+fn attempt_after<R: Wait, W: World, S: Shared>(
+    conn: &mut Conn,
+    rt: &R,
+    alloc: Global,
+    world: &mut W,
+    shared: &mut S,
+    buffer: &mut [u8; ROOM],
+    read: LinkRead,
+)
+    requires linked { Linked (W.seen world.old) conn.old }
+    requires below { IsBelow (S.desk shared.old).generations conn.old.current.number }
+    requires prompt { IsPrompt conn.old }
+    requires open { IsOpen conn.old }
+    requires within { (n : ℕ) → read ≡ LinkRead.Got n → n ≤ 32768 }
+    requires counted { Counted (record { client = 1; server = 0 }) (W.lately world.old) conn.old }
+    ensures went { (s : Seen) (l : Lately) → Linked s conn.old → ReadDid s conn.old.client.link read buffer.old (W.seen world.old)
+        → ReadLately l conn.old.client.link read (W.lately world.old)
+        → Went ⊥ (moment s l (S.desk shared.old) conn.old) (moment (W.seen world.new) (W.lately world.new) (S.desk shared.new) conn.new) }
+    ensures kept { IsOpen conn.new ⊎ IsEnding conn.new.phase }
+    ensures calm { Calm (W.lately world.new) conn.new }
+{
+    let Ok(_) = take_read(conn, alloc, buffer, read) else {
+        give_up(conn, world);
+        return;
+    };
+    let Ok(_) = answer(conn, alloc, world) else {
+        give_up(conn, world);
+        return;
+    };
+    let reads = Reads {
+        client: 1,
+        server: 0,
+    };
+    attempt(conn, rt, alloc, world, shared, buffer, reads);
 }
 
 // Gives a connection up, and closes the link to its server. It takes no memory, and does nothing where it has ended.
@@ -132,6 +235,24 @@ fn halt<W: World>(conn: &mut Conn, world: &mut W)
     }
 }
 
+// Closes the client's link, unless the connection is open, and tells the notes that wait.
+fn close_and_tell<W: World>(conn: &mut Conn, alloc: Global, world: &mut W) -> Result<(), Memory>
+    requires linked { Linked (W.seen world.old) conn.old }
+    requires tracked { IsTracked (W.seen world.old) conn.old }
+    requires kept { IsOpen conn.old ⊎ IsEnding conn.old.phase }
+    ensures went { (g : Desk) → OnOk result (Went ⊥ (moment (W.seen world.old) (W.lately world.old) g conn.old)
+        (moment (W.seen world.new) (W.lately world.new) g conn.new)) }
+    ensures lost { (g : Desk) → OnErr result (Lost ⊥ (moment (W.seen world.old) (W.lately world.old) g conn.old)
+        (W.seen world.new) (W.lately world.new) g) }
+    ensures lately { IsOpen conn.old → W.lately world.new ≡ W.lately world.old }
+    ensures told { OnOk result (conn.new.notes.items ≡ []) }
+    ensures open { OnOk result (IsOpen conn.old → conn.new ≡ record conn.old { notes = conn.new.notes }) }
+    ensures finished { OnOk result (IsEnding conn.old.phase → IsFinished conn.new) }
+{
+    hang_up(conn, world);
+    tell(conn, alloc, world)
+}
+
 // Tells the notes that wait.
 fn tell<W: World>(conn: &mut Conn, alloc: Global, world: &mut W) -> Result<(), Memory>
     requires linked { Linked (W.seen world.old) conn.old }
@@ -164,4 +285,23 @@ fn is_quiet(conn: &Conn) -> bool
         return false;
     }
     conn.notes.as_slice().is_empty()
+}
+
+// How many bytes may come to a connection that waits for its next request and owes its client nothing.
+fn idle_room(conn: &Conn) -> Option<usize>
+    ensures waits { OnSome result (Waits Stage.Head conn.now) }
+    ensures pending { OnSome result (pending_of conn.now ≡ []) }
+    ensures notes { OnSome result (conn.now.notes.items ≡ []) }
+    ensures room { IfSome result (λ room. (0 < room) × (room ≤ 32768)) }
+{
+    if !is_quiet(conn) {
+        return None;
+    }
+    if !conn.pending().is_empty() {
+        return None;
+    }
+    match conn.stage {
+        Stage::Head => room_for(conn, &UNREAD),
+        _ => None,
+    }
 }

@@ -33,7 +33,13 @@ pub(crate) struct Reads {
     pub(crate) server: u32,
 }
 
-/// Serves an open connection until nothing moves. What links give is read into the buffer.
+/// No link was read yet.
+pub(crate) const UNREAD: Reads = Reads {
+    client: 0,
+    server: 0,
+};
+
+/// Serves an open connection until nothing moves, after so many reads. What links give is read into the buffer.
 pub(crate) fn work<R: Wait, W: World, S: Shared>(
     conn: &mut Conn,
     rt: &R,
@@ -41,18 +47,16 @@ pub(crate) fn work<R: Wait, W: World, S: Shared>(
     world: &mut W,
     shared: &mut S,
     buffer: &mut [u8; ROOM],
+    mut reads: Reads,
 ) -> Result<(), Memory>
     requires linked { Linked (W.seen world.old) conn.old }
     requires below { IsBelow (S.desk shared.old).generations conn.old.current.number }
     requires prompt { IsPrompt conn.old }
+    requires counted { Counted reads (W.lately world.old) conn.old }
     ensures went { Went ⊥ (moment (W.seen world.old) (W.lately world.old) (S.desk shared.old) conn.old)
         (moment (W.seen world.new) (W.lately world.new) (S.desk shared.new) conn.new) }
     ensures calm { OnOk result (Calm (W.lately world.new) conn.new) }
 {
-    let mut reads = Reads {
-        client: 0,
-        server: 0,
-    };
     for _ in rt.forever() {
         if !conn.is_open() {
             return Ok(());

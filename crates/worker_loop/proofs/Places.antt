@@ -1,5 +1,5 @@
 -- A connection that was written in its place, and how many stand from a key on.
-use Rattle.std.proofs.Common.{◌≡◌, ◌≢◌, ℕ, ◌+◌, ◌<◌, ◌≤◌, zero, suc, List, [], ◌∷◌, Option, Some, None, is_some, get_or, length, drop, refl, sym, ◌∙◌, ap, arith, Bool, if◌then◌else◌}
+use Rattle.std.proofs.Common.{◌≡◌, ◌≢◌, ℕ, ◌+◌, ◌<◌, ◌≤◌, zero, suc, List, [], ◌∷◌, Option, Some, None, is_some, get_or, length, drop, refl, sym, ◌∙◌, ap, arith, Bool, true, false, if◌then◌else◌}
 use Rattle.std.specs.Prelude.{count_by}
 use Rattle.std.proofs.lemmas.List.{get_or-set_same, get_or-set_other}
 use Rattle.std.proofs.lemmas.List.Sums.{sum_by-cons, sum_by-set}
@@ -55,10 +55,16 @@ count_next {X} (x ∷ xs) (suc k) =
     let next : suc (k + 1) ≡ suc k + 1 = omega arith in
     count_next xs k ∙ ap (λ (n : ℕ). one_of (get_or xs k None) + count_by is_some (drop n (x ∷ xs))) next
 
--- what the key has, and what stands after it
-pub held_next : (conns later : Slab Conn) (key held : ℕ) → get later key ≡ get conns key → held ≡ one_of (get later key) → held_from conns key ≡ held + held_from conns (key + 1)
-held_next conns later key held same is =
-    count_next conns.slots key ∙ ap (λ (n : ℕ). n + held_from conns (key + 1)) (ap (λ (o : Option Conn). one_of o) (sym same) ∙ sym is)
+held_next : (conns later : Slab Conn) (key : ℕ) (found : Bool) → get later key ≡ get conns key → found ≡ is_some (get later key) → held_from conns key ≡ (if found then 1 else 0) + held_from conns (key + 1)
+held_next conns later key found same is =
+    count_next conns.slots key ∙ ap (λ (n : ℕ). n + held_from conns (key + 1)) (ap (λ (o : Option Conn). one_of o) (sym same) ∙ ap (λ (b : Bool). if b then 1 else 0) (sym is))
+
+-- where the key has a connection, one less stands after it, and else as many
+pub held_found : (conns later : Slab Conn) (key : ℕ) (found : Bool) → get later key ≡ get conns key → found ≡ is_some (get later key) → found ≡ true → held_from conns key ≡ 1 + held_from conns (key + 1)
+held_found conns later key found same is yes_ = held_next conns later key found same is ∙ ap (λ (b : Bool). (if b then 1 else 0) + held_from conns (key + 1)) yes_
+
+pub held_vacant : (conns later : Slab Conn) (key : ℕ) (found : Bool) → get later key ≡ get conns key → found ≡ is_some (get later key) → found ≡ false → held_from conns key ≡ 0 + held_from conns (key + 1)
+held_vacant conns later key found same is no_ = held_next conns later key found same is ∙ ap (λ (b : Bool). (if b then 1 else 0) + held_from conns (key + 1)) no_
 
 none_left : {X : Type 0} (xs : List (Option X)) (key k : ℕ) → count_by is_some (drop key xs) ≡ 0 → key ≤ k → get_or xs k None ≡ None
 none_left [] key k none le = refl

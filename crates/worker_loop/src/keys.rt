@@ -1,5 +1,5 @@
 // A worker's connections, by their keys in its slab.
-ghost use Rattle.std.specs.Prelude.{◌≡◌, ◌≢◌, ◌≤◌, ℕ, List, OnOk, IsOk, None, true};
+ghost use Rattle.std.specs.Prelude.{◌≡◌, ◌≢◌, ◌≤◌, ℕ, List, OnOk, IfOk, IsOk, None, true, is_some};
 ghost use Rattle.link_world.specs.Seen.{Seen};
 ghost use Rattle.conversation.specs.Plans.{Plan};
 ghost use Rattle.desk.specs.Desks.{Grew};
@@ -20,8 +20,8 @@ use std::alloc::Global;
 use std::sync::Wait;
 
 impl Worker {
-    /// Serves the connection under a key, if there is one. It is gone where it has ended, and where a note of it is
-    /// lost.
+    /// Serves the connection under a key, if there is one, and answers whether there was. It is gone where it has
+    /// ended, and where a note of it is lost.
     pub(crate) fn serve_key<R: Wait, W: World, S: Shared>(
         &mut self,
         rt: &R,
@@ -29,13 +29,14 @@ impl Worker {
         key: usize,
         world: &mut W,
         shared: &mut S,
-    ) -> Result<(), Memory>
+    ) -> Result<bool, Memory>
         requires { Attends (W.seen world.old) (S.desk shared.old).generations self.old.conns }
         ensures runs { (base : Seen) → Runs base (W.seen world.old) (S.desk shared.old).generations self.old.conns
             → Runs base (W.seen world.new) (S.desk shared.new).generations self.new.conns }
         ensures stops { (W.seen world.new).stops ≡ (W.seen world.old).stops }
         ensures grew { Grew (S.desk shared.old).generations (S.desk shared.new).generations }
         ensures links { self.new.links ≡ self.old.links }
+        ensures found { IfOk result (λ found. found ≡ is_some (get self.old.conns key)) }
         ensures fewer { slab_len self.new.conns ≤ slab_len self.old.conns }
         ensures others { (k : ℕ) → k ≢ key → get self.new.conns k ≡ get self.old.conns k }
         ensures turn { SameTurn (W.lately world.old) (W.lately world.new) }
@@ -48,7 +49,7 @@ impl Worker {
     {
         // It stays in its place: it is too large to be moved at each turn.
         let Some(conn) = self.conns.get_mut(key) else {
-            return Ok(());
+            return Ok(false);
         };
         if let Err(lost) = serve(conn, rt, alloc, world, shared, &mut *self.buffer) {
             self.forget(key);
@@ -57,7 +58,7 @@ impl Worker {
         if conn.is_finished() {
             self.forget(key);
         }
-        Ok(())
+        Ok(true)
     }
 
     // Lets the connection under a key go.

@@ -1,5 +1,5 @@
 //! A worker's turn.
-ghost use Rattle.std.specs.Prelude.{◌≡◌, ◌≢◌, ◌≤◌, ◌+◌, ℕ, List, OnOk, OnErr, IfOk, IfSome, IfNone, true, false, is_some, if◌then◌else◌};
+ghost use Rattle.std.specs.Prelude.{◌≡◌, ◌≢◌, ◌≤◌, ◌+◌, ℕ, List, OnOk, OnErr, IfOk, IfSome, IfNone, true, false};
 ghost use Rattle.slab.specs.Slab.{get, slab_len, Slab as Slots};
 ghost use Rattle.conn_machine.specs.declared.conn.Conn.{Conn as Connection};
 ghost use Rattle.worker_loop.specs.Met.{Meets};
@@ -126,8 +126,9 @@ impl Worker {
             if left == 0 {
                 return Ok(());
             }
-            left -= held_at(&self.conns, key);
-            self.serve_key(rt, alloc, key, world, shared)?;
+            if self.serve_key(rt, alloc, key, world, shared)? {
+                left -= 1;
+            }
         }
         Ok(())
     }
@@ -187,16 +188,6 @@ impl Worker {
         let conn = begin(alloc, world, &client)?;
         let key = self.conns.insert_reserved(conn);
         Ok(Some(key))
-    }
-}
-
-// How many connections the key has: 1 or 0.
-fn held_at(conns: &Slab<Conn>, key: usize) -> usize
-    ensures { result ≡ (if is_some (get conns.now key) then 1 else 0) }
-{
-    match conns.get(key) {
-        Some(_) => 1,
-        None => 0,
     }
 }
 

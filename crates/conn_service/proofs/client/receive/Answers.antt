@@ -1,6 +1,9 @@
-use Rattle.std.proofs.Common.{refl, inr}
+use Rattle.std.proofs.Common.{refl, inl, inr, subst, ◌≡◌, true}
+use Rattle.link_world.specs.Lately.{ReadLately}
+use Rattle.link_world.specs.declared.world.LinkRead.{LinkRead}
+use Rattle.conn_machine.specs.declared.parts.Client.{Client}
 use Rattle.conn_service.proofs.Wents.{went_same}
-use Rattle.conn_service.proofs.Counts.{stays_work, work_same, if_ok}
+use Rattle.conn_service.proofs.Counts.{counted_client, stays_work, stays_read, work_same, if_ok}
 use Rattle.conn_service.proofs.client.receive.Goals as goal
 
 pub returns-in_default-clause-went : goal.returns-in_default-clause-went
@@ -12,14 +15,14 @@ returns-in_default-clause-server g c = λ ex. (ex, refl)
 pub returns-in_default-clause-still : goal.returns-in_default-clause-still
 returns-in_default-clause-still g c = λ e open_. (stays_work _ (work_same _), c.in_default.ensures.none _ c.requires.counted open_)
 
-pub receive_into-requires-clause-open : goal.receive_into-requires-clause-open
-receive_into-requires-clause-open g c = c.in-Some.ensures.some.0
-
 pub returns-clause-went : goal.returns-clause-went
-returns-clause-went g c = c.receive_into.ensures.went
+returns-clause-went g c = λ desk. c.take_read.ensures.went _ _ _ _ desk c.requires.linked c.read_client-read.ensures.seen c.read_client-read.ensures.lately
 
 pub returns-clause-counted : goal.returns-clause-counted
-returns-clause-counted g c = c.receive_into.ensures.counted c.args.reads.now c.in-Some.ensures.some.3 c.requires.counted
+returns-clause-counted g c = counted_client c.requires.linked c.read_client-read.ensures.lately c.take_read.ensures.client c.take_read.ensures.server c.in-Some.ensures.some.3 c.requires.counted
 
 pub returns-clause-still : goal.returns-clause-still
-returns-clause-still g c = if_ok c.receive_into.result (λ moved f e open_. let q = f e in (q.0, inr (inr q.1))) c.receive_into.ensures.still
+returns-clause-still g c = if_ok c.take_read.result (λ moved f e open_.
+    let q = f e in
+    let lately = subst (λ (r : LinkRead). ReadLately (g.W.World.lately c.args.world.now) c.args.conn.now.client.link r (g.W.World.lately c.read_client-read.new.world)) q.0 c.read_client-read.ensures.lately in
+    (stays_read lately q.1, inr (inr (inl (rw c.take_read.ensures.client lately.read_quiet))))) c.take_read.ensures.still

@@ -4,7 +4,7 @@ use Rattle.conn_service.proofs.Wents.{went_same, went_then}
 use Rattle.conn_service.proofs.turn.work.Goals as goal
 
 pub loop-init : goal.loop-init
-loop-init g c = (tt, tt, went_same c.requires.linked, c.requires.prompt, record { client = omega arith; client_most = omega arith; server = λ ex. omega arith; server_most = omega arith })
+loop-init g c = (tt, tt, went_same c.requires.linked, c.requires.prompt, c.requires.counted)
 
 pub returns-then-not-is_open-clause-went : goal.returns-then-not-is_open-clause-went
 returns-then-not-is_open-clause-went g c = c.loop.invariant.2

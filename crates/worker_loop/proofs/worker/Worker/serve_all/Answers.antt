@@ -2,8 +2,9 @@ use Rattle.std.proofs.Common.{◌∙◌, refl, arith}
 use Rattle.conn_service.proofs.Lists.{grew_none, grew_twice}
 use Rattle.worker_loop.proofs.Servings.{runs_none, runs_attends, past_slots, above_next}
 use Rattle.worker_loop.proofs.Comings.{all_settled}
-use Rattle.worker_loop.proofs.Places.{held_next, none_from}
+use Rattle.worker_loop.proofs.Places.{held_found, held_vacant, none_from}
 use Rattle.worker_loop.proofs.worker.Worker.serve_all.Goals as goal
+use Rattle.worker_loop.proofs.worker.Worker.serve_all.Goals.{then-branch, else-branch}
 
 pub loop-key-init : goal.loop-key-init
 loop-key-init g c = (λ base r. r, refl, record { clocked = refl; no_more = refl }, λ k lt. absurd (omega arith), λ k le. past_slots c.args.self.now.conns.slots k (omega (arith, c.capacity-end.ensures.slots, le)), refl, λ base from a. a, omega arith, grew_none (g.S.Shared.desk c.args.shared.now).generations, λ k le. refl, c.len-left.ensures, λ first base m. m)
@@ -28,15 +29,15 @@ loop-key-preserved g c =
       omega (arith, c.serve_key.ensures.fewer, c.loop-key.invariant.7),
       grew_twice _ _ _ c.loop-key.invariant.8 c.serve_key.ensures.grew,
       above_next c.args.self.now.conns c.loop-key.self.conns c.serve_key.new.self.conns c.loop-key.key c.loop-key.invariant.9 c.serve_key.ensures.others,
-      omega (arith, c.loop-key.invariant.10, held_next c.args.self.now.conns c.loop-key.self.conns c.loop-key.key c.held_at-left.result (c.loop-key.invariant.9 c.loop-key.key (omega arith)) c.held_at-left.ensures),
+      elim c.if-branch.branch [
+        | then-branch w ↦ omega (arith, w.left-is, c.loop-key.invariant.10, held_found c.args.self.now.conns c.loop-key.self.conns c.loop-key.key c.in_ok-serve_key.field-0 (c.loop-key.invariant.9 c.loop-key.key (omega arith)) c.in_ok-serve_key.ensures.found w.if-branch.true)
+        | else-branch w ↦ omega (arith, w.left-is, c.loop-key.invariant.10, held_vacant c.args.self.now.conns c.loop-key.self.conns c.loop-key.key c.in_ok-serve_key.field-0 (c.loop-key.invariant.9 c.loop-key.key (omega arith)) c.in_ok-serve_key.ensures.found w.if-branch.false)
+      ],
       λ first base m. c.in_ok-serve_key.ensures.met first base (c.loop-key.invariant.11 first base m),
     )
 
 pub returns-clause-settled : goal.returns-clause-settled
 returns-clause-settled g c = all_settled c.loop-key.self.conns c.capacity-end.result (λ k lt. c.loop-key.invariant.3 k (omega (arith, lt, c.loop-key-test.false))) c.loop-key.invariant.4
-
-pub overflow_sub-left : goal.overflow_sub-left
-overflow_sub-left g c = omega (arith, c.loop-key.invariant.10, held_next c.args.self.now.conns c.loop-key.self.conns c.loop-key.key c.held_at-left.result (c.loop-key.invariant.9 c.loop-key.key (omega arith)) c.held_at-left.ensures)
 
 pub returns-then-left-eq0-clause-settled : goal.returns-then-left-eq0-clause-settled
 returns-then-left-eq0-clause-settled g c = all_settled c.loop-key.self.conns c.loop-key.key c.loop-key.invariant.3

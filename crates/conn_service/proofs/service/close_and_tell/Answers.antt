@@ -1,0 +1,19 @@
+use Rattle.std.proofs.Common.{◌∙◌}
+use Rattle.std.proofs.lemmas.Result.{on_ok_weaker, on_err_weaker}
+use Rattle.conn_service.proofs.Wents.{went_then, lost_then, tracked_then, no_desk}
+use Rattle.conn_service.proofs.service.close_and_tell.Goals as goal
+
+pub tell-requires-clause-linked : goal.tell-requires-clause-linked
+tell-requires-clause-linked g c = (c.hang_up.ensures.went no_desk).conn.linked
+
+pub tell-requires-clause-tracked : goal.tell-requires-clause-tracked
+tell-requires-clause-tracked g c = tracked_then (c.hang_up.ensures.went no_desk) c.requires.tracked
+
+pub returns-clause-went : goal.returns-clause-went
+returns-clause-went g c = λ desk. on_ok_weaker c.tell.result (λ w. went_then (c.hang_up.ensures.went desk) w) (c.tell.ensures.went desk)
+
+pub returns-clause-lost : goal.returns-clause-lost
+returns-clause-lost g c = λ desk. on_err_weaker c.tell.result (λ w. lost_then (c.hang_up.ensures.went desk) w) (c.tell.ensures.lost desk)
+
+pub returns-clause-lately : goal.returns-clause-lately
+returns-clause-lately g c = λ opened. c.tell.ensures.lately ∙ c.hang_up.ensures.open opened
