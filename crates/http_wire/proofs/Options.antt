@@ -9,7 +9,7 @@ use Rattle.std.proofs.lemmas.Slice.Eq.{bytes_eq-Decides}
 use Rattle.httparse.specs.declared.spans.HeaderSpan.{HeaderSpan}
 use Rattle.httparse.specs.Spans.{header_bytes, span_bytes, IsHeaderWithin}
 use Rattle.head_view.specs.Lines.{lines_at, has_name, values_of, AreWithin}
-use Rattle.http_wire.specs.Fields.{is_comma, lists, trimmed, without_leading_blanks}
+use Rattle.http_wire.specs.Fields.{elements, is_comma, lists, trimmed, without_leading_blanks}
 
 -- these lines lie in the buffer, and have the same values of this name as all
 abbrev HaveSame : List ℕ → List ℕ → List HeaderSpan → List HeaderSpan → Type 0
@@ -113,3 +113,29 @@ lists_no_longer name text lt = none_among name (length text) (slice_split is_com
 pub too_short : (t : Bool) (name text : List ℕ) → length text < length name → (t && lists name text) ≡ false
 too_short true name text lt = lists_no_longer name text lt
 too_short false name text lt = refl
+
+any_map : (name : List ℕ) (parts : List (List ℕ)) → list_any (λ part. str_eq_ignore_ascii_case (trimmed part) name) parts
+    ≡ list_any (λ (e : List ℕ). str_eq_ignore_ascii_case e name) (map trimmed parts)
+any_map name [] = refl
+any_map name (part ∷ parts) = rw (any_map name parts)
+
+any_one : (name e : List ℕ) → list_any (λ (e : List ℕ). str_eq_ignore_ascii_case e name) (e ∷ []) ≡ str_eq_ignore_ascii_case e name
+any_one name e = by (str_eq_ignore_ascii_case e name) refl
+  where
+    by : (t : Bool) → str_eq_ignore_ascii_case e name ≡ t → list_any (λ (e : List ℕ). str_eq_ignore_ascii_case e name) (e ∷ []) ≡ str_eq_ignore_ascii_case e name
+    by true is = rw is
+    by false is = rw is
+
+any_value : (name v : List ℕ) → list_any (lists name) (v ∷ []) ≡ lists name v
+any_value name v = by (lists name v) refl
+  where
+    by : (t : Bool) → lists name v ≡ t → list_any (lists name) (v ∷ []) ≡ lists name v
+    by true is = rw is
+    by false is = rw is
+
+-- one value with one element lists that alone
+pub only_one : (values : List (List ℕ)) (v e : List ℕ) → values ≡ v ∷ [] → elements v ≡ e ∷ []
+    → (name : List ℕ) → list_any (lists name) values ≡ str_eq_ignore_ascii_case e name
+only_one values v e one only name =
+    ap (list_any (lists name)) one ∙ any_value name v ∙ any_map name (slice_split is_comma v)
+    ∙ ap (list_any (λ (e : List ℕ). str_eq_ignore_ascii_case e name)) only ∙ any_one name e

@@ -9,12 +9,12 @@ ghost use Rattle.path_norm.specs.Escapes.{HasWholeEscapes};
 ghost use Rattle.path_norm.specs.Normal.{IsRooted, Normalises};
 ghost use Rattle.head_view.specs.Lines.{AreWithin, lines_at};
 ghost use Rattle.head_view.specs.Scans.{IsHeadWithin};
-ghost use Rattle.http_wire.specs.Fields.{HaveSameOptions};
+ghost use Rattle.http_wire.specs.Fields.{HoldOptions};
 ghost use Rattle.http_wire.specs.Framing.{encodings_of, lengths_of, framing_by, IsFramed};
 ghost use Rattle.http_wire.specs.Targets.{path_of, query_of, is_bad_target};
 ghost use Rattle.http_wire.specs.Requests.{hosts_of, first_or_empty, host_in, HasNoHost, HasTwoHosts, IsHosted, is_forwarded, is_replaced, goes_to_backend, told_fields, lines_for_backend, keeps, IsRequestOf, IsBadTarget, IsSound, IsHeadFault, TakesRequest};
 
-use crate::fields::{does_go_on, first_named, has_none, is_in_connection, is_named, option_lines};
+use crate::fields::{Options, does_go_on, first_named, has_none, is_named, is_option, options_of};
 use crate::framing::{FramingFault, framing_of};
 use crate::lines::{FieldLines, room_of};
 use crate::message::Request;
@@ -217,8 +217,9 @@ fn request_with(
     ensures { IfOk result (IsRequestOf method.now target.now version (lines_at buf.now lines.now) peer) }
 {
     let query = copied(alloc, query_in(target))?;
-    let keep = version == 1 && !is_in_connection(buf, lines, b"close");
-    let lines = backend_lines(alloc, buf, lines, head.host, peer)?;
+    let options = options_of(buf, lines);
+    let keep = version == 1 && !is_option(buf, lines, &options, b"close");
+    let lines = backend_lines(alloc, buf, lines, &options, head.host, peer)?;
     Ok(Request {
         method: Bytes::from_slice(alloc, method)?,
         host: Bytes::from_slice(alloc, head.host)?,
@@ -245,13 +246,15 @@ fn backend_lines(
     alloc: Global,
     buf: &[u8],
     lines: &[HeaderSpan],
+    options: &Options<'_>,
     host: &[u8],
     peer: Ip,
 ) -> Result<FieldLines, Memory>
-    requires { AreWithin buf.now lines.now }
+    requires lines { AreWithin buf.now lines.now }
+    requires options { HoldOptions buf.now options.now.lines.now (option_map (λ o. o.now) options.now.only) lines.now }
     ensures { IfOk result (λ all. all ≡ lines_for_backend peer host.now (lines_at buf.now lines.now)) }
 {
-    let mut all = client_lines(alloc, buf, lines)?;
+    let mut all = client_lines(alloc, buf, lines, options)?;
     let mut address = Vec::with_capacity(alloc, 16)?;
     push_address(alloc, peer, &mut address)?;
     push_told(&mut all, address.as_slice(), host)?;
@@ -284,11 +287,16 @@ fn push_dotted(a: u8, b: u8, c: u8, d: u8, out: &mut Vec<u8>) -> Result<(), Memo
 }
 
 // The client's lines that go on, with room for what is told of the client.
-fn client_lines(alloc: Global, buf: &[u8], lines: &[HeaderSpan]) -> Result<FieldLines, Memory>
-    requires { AreWithin buf.now lines.now }
+fn client_lines(
+    alloc: Global,
+    buf: &[u8],
+    lines: &[HeaderSpan],
+    options: &Options<'_>,
+) -> Result<FieldLines, Memory>
+    requires lines { AreWithin buf.now lines.now }
+    requires options { HoldOptions buf.now options.now.lines.now (option_map (λ o. o.now) options.now.only) lines.now }
     ensures { IfOk result (λ kept. kept ≡ filter (goes_to_backend (lines_at buf.now lines.now)) (lines_at buf.now lines.now)) }
 {
-    let options = option_lines(buf, lines);
     let room = room_of(lines).saturating_add(TOLD_ROOM);
     let mut kept = FieldLines::with_capacity(alloc, lines.len() + TOLD_LINES, room)?;
     for line in lines {
@@ -299,19 +307,18 @@ fn client_lines(alloc: Global, buf: &[u8], lines: &[HeaderSpan]) -> Result<Field
     Ok(kept)
 }
 
-// Whether the line goes to the backend, among `lines`, whose `Connection` lines are all among `options`.
+// Whether the line goes to the backend, among `lines` with these options.
 fn does_go_to_backend(
     buf: &[u8],
     lines: &[HeaderSpan],
-    options: &[HeaderSpan],
+    options: &Options<'_>,
     line: &HeaderSpan,
 ) -> bool
-    requires within { AreWithin buf.now options.now }
-    requires same { HaveSameOptions buf.now options.now lines.now }
+    requires options { HoldOptions buf.now options.now.lines.now (option_map (λ o. o.now) options.now.only) lines.now }
     requires one { IsHeaderWithin (length buf.now) line.now }
     ensures { result ≡ goes_to_backend (lines_at buf.now lines.now) (header_bytes buf.now line.now) }
 {
-    does_go_on(buf, options, line) && !is_replaced_line(buf, line)
+    !is_replaced_line(buf, line) && does_go_on(buf, lines, options, line)
 }
 
 fn is_replaced_line(buf: &[u8], line: &HeaderSpan) -> bool
