@@ -1,5 +1,5 @@
 //! The field lines of a head that lies in a buffer (RFC 9110 section 5).
-ghost use Rattle.std.specs.Prelude.{◌≡◌, ◌≢◌, ◌&&◌, codes, ◌↔◌, ◌++◌, ◌∷◌, ◌<◌, [], List, false, ℕ, All, IsTrue, IfOk, IfSome, MatchOption, length, map, filter};
+ghost use Rattle.std.specs.Prelude.{◌≡◌, ◌≢◌, ◌&&◌, codes, ◌↔◌, ◌++◌, ◌∷◌, ◌<◌, [], List, false, ℕ, All, IsTrue, IfOk, IfSome, MatchOption, length, map, filter, nat_le, take};
 ghost use Rattle.std.specs.List.{list_all, list_any};
 ghost use Rattle.std.specs.Option.{option_map};
 ghost use Rattle.std.specs.Str.{str_eq_ignore_ascii_case};
@@ -94,6 +94,13 @@ pub(crate) fn has_only(buf: &[u8], lines: &[HeaderSpan], name: &[u8], value: &[u
         }
     }
     true
+}
+
+/// Whether the text begins with these bytes, without case.
+pub(crate) fn begins_with(text: &[u8], prefix: &[u8]) -> bool
+    ensures { result ≡ (nat_le (length prefix.now) (length text.now) && str_eq_ignore_ascii_case (take (length prefix.now) text.now) prefix.now) }
+{
+    text.len() >= prefix.len() && fold_equal(&text[..prefix.len()], prefix)
 }
 
 /// The text without the blanks round it.

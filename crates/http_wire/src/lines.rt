@@ -3,7 +3,7 @@ ghost use Rattle.std.specs.Prelude.{◌≡◌, ◌+◌, ◌<◌, ◌≤◌, ◌�
 ghost use Rattle.std.specs.Option.{ForSome};
 ghost use Rattle.httparse.specs.Spans.{IsHeaderWithin, header_bytes, span_bytes};
 ghost use Rattle.head_view.specs.Lines.{lines_at};
-ghost use Rattle.http_wire.specs.Lines.{AreSpelled, Keeps, field_text, fields_text, span_at};
+ghost use Rattle.http_wire.specs.Lines.{AreSpelled, Keeps, crlf, field_text, fields_text, span_at};
 
 use httparse::spans::{HeaderSpan, Span};
 use px_base::Memory;
@@ -67,6 +67,20 @@ impl FieldLines {
         add_field(&mut self.text, &mut self.spans, name, value, None)
     }
 
+    /// Adds a line that is spelled so. Where memory runs out the lines stay as they were.
+    pub(crate) fn push_whole(
+        &mut self,
+        whole: &[u8],
+        name: &[u8],
+        value: &[u8],
+    ) -> Result<(), Memory>
+        requires { whole.now ≡ field_text name.now value.now }
+        ensures ok { OnOk result (self.new ≡ self.old ++ (name.now, value.now) ∷ []) }
+        ensures err { OnErr result (self.new ≡ self.old) }
+    {
+        add_field(&mut self.text, &mut self.spans, name, value, Some(whole))
+    }
+
     /// Adds a line of the head in `buf`. Where memory runs out the lines stay as they were.
     ///
     /// A line that is spelled there as it is spelled here is copied at once.
@@ -110,17 +124,23 @@ fn spelled_at<'a>(buf: &'a [u8], line: &HeaderSpan) -> Option<&'a [u8]>
         return None;
     }
     let end = value.end + 2;
-    if is_text(&buf[name.end..value.start], b": ") && is_text(&buf[value.end..end], b"\r\n") {
+    if is_gap(&buf[name.end..value.start]) && is_line_end(&buf[value.end..end]) {
         Some(&buf[name.start..end])
     } else {
         None
     }
 }
 
-fn is_text(a: &[u8], b: &[u8]) -> bool
-    ensures { IsTrue result ↔ (a.now ≡ b.now) }
+fn is_gap(text: &[u8]) -> bool
+    ensures { IsTrue result ↔ (text.now ≡ codes ": ") }
 {
-    a == b
+    matches!(text, [b':', b' '])
+}
+
+fn is_line_end(text: &[u8]) -> bool
+    ensures { IsTrue result ↔ (text.now ≡ crlf) }
+{
+    matches!(text, [b'\r', b'\n'])
 }
 
 // Adds a line, whose spelling is `whole` where that stands in one piece. Where memory runs out the lines stay as they

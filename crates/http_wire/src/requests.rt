@@ -14,7 +14,9 @@ ghost use Rattle.http_wire.specs.Framing.{encodings_of, lengths_of, framing_by, 
 ghost use Rattle.http_wire.specs.Targets.{path_of, query_of, is_bad_target};
 ghost use Rattle.http_wire.specs.Requests.{hosts_of, first_or_empty, host_in, HasNoHost, HasTwoHosts, IsHosted, is_forwarded, is_replaced, goes_to_backend, told_fields, lines_for_backend, keeps, IsRequestOf, IsBadTarget, IsSound, IsHeadFault, TakesRequest};
 
-use crate::fields::{Options, does_go_on, first_named, has_none, is_named, is_option, options_of};
+use crate::fields::{
+    Options, begins_with, does_go_on, first_named, has_none, is_named, is_option, options_of,
+};
 use crate::framing::{FramingFault, framing_of};
 use crate::lines::{FieldLines, room_of};
 use crate::message::Request;
@@ -24,7 +26,7 @@ use head_view::HeadSpans;
 use httparse::spans::HeaderSpan;
 use ip_net::{Ip, print_ip};
 use path_norm::{PathFault, normalise};
-use px_base::{Bytes, Memory, fold_equal, print_decimal};
+use px_base::{Bytes, Memory, print_decimal};
 use std::alloc::Global;
 
 /// As many lines say what the proxy knows of the client.
@@ -335,7 +337,7 @@ fn is_replaced_line(buf: &[u8], line: &HeaderSpan) -> bool
 fn is_of_forwarding(name: &[u8]) -> bool
     ensures { result ≡ is_forwarded name.now }
 {
-    name.len() >= 12 && fold_equal(&name[..12], b"X-Forwarded-")
+    begins_with(name, b"X-Forwarded-")
 }
 
 // Adds what the proxy says of a client with this address.
@@ -346,7 +348,11 @@ fn push_told(lines: &mut FieldLines, address: &[u8], host: &[u8]) -> Result<(), 
     lines.push(b"X-Forwarded-For", address)?;
     lines.push(b"X-Forwarded-Host", host)?;
     lines.push(b"X-Forwarded-Port", port_in(host))?;
-    lines.push(b"X-Forwarded-Proto", b"http")?;
+    lines.push_whole(
+        b"X-Forwarded-Proto: http\r\n",
+        b"X-Forwarded-Proto",
+        b"http",
+    )?;
     lines.push(b"X-Real-Ip", address)?;
     Ok(())
 }

@@ -5,13 +5,14 @@ ghost use Rattle.std.specs.Option.{option_map};
 ghost use Rattle.path_norm.specs.Normal.{IsRooted};
 ghost use Rattle.http_wire.specs.Targets.{is_origin, is_absolute, ends_authority, behind_scheme, before_place, from_place, behind_place, authority_of, path_and_query, is_question, or_slash, path_of, query_of, host_text_of, is_target_byte, is_bad_target, last_digits, has_port, port_of, has_colon, without_port as text_without_port, host_of_rules as rule_host};
 
-use px_base::{fold_equal, without_last_dot};
+use crate::fields::begins_with;
+use px_base::without_last_dot;
 
 /// Whether the target begins with `http://`, without case.
 fn has_scheme(target: &[u8]) -> bool
     ensures { result ≡ is_absolute target.now }
 {
-    target.len() >= 7 && fold_equal(&target[..7], b"http://")
+    begins_with(target, b"http://")
 }
 
 fn is_rooted(target: &[u8]) -> bool
