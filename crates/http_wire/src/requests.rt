@@ -20,7 +20,7 @@ use crate::fields::{
 use crate::framing::{FramingFault, framing_of};
 use crate::lines::{FieldLines, room_of};
 use crate::message::Request;
-use crate::targets::{host_text, is_refused_target, path_in, port_in, query_in};
+use crate::targets::{host_text, is_refused_target, path_and_query_in, port_in};
 use body_codec::Framing;
 use head_view::HeadSpans;
 use httparse::spans::HeaderSpan;
@@ -116,10 +116,12 @@ fn taken(
 #[derive(Clone, Copy)]
 struct Sound<'a> {
     host: &'a [u8],
+    path: &'a [u8],
+    query: Option<&'a [u8]>,
     framing: Framing,
 }
 
-// The host text and the framing of a head without a fault but perhaps a bad escape.
+// What a head says that has no fault but perhaps a bad escape.
 fn read_head<'a>(
     buf: &'a [u8],
     lines: &[HeaderSpan],
@@ -130,6 +132,7 @@ fn read_head<'a>(
     requires { AreWithin buf.now lines.now }
     ensures { let fields = lines_at buf.now lines.now in MatchResult result
         (λ s. IsSound method.now target.now version fields × (s.host.now ≡ host_in target.now fields)
+        × (s.path.now ≡ path_of target.now) × (option_map (λ q. q.now) s.query ≡ query_of target.now)
         × (s.framing ≡ framing_by (encodings_of fields) (lengths_of fields) Framing.None))
         (IsHeadFault method.now target.now version fields) }
 {
@@ -140,7 +143,15 @@ fn read_head<'a>(
     let host = host_text(target, value);
     match framing_of(buf, lines, version, Framing::None) {
         Ok(_) if is_refused_target(method, target, host) => Err(HeadFault::BadTarget),
-        Ok(framing) => Ok(Sound { host, framing }),
+        Ok(framing) => {
+            let (path, query) = path_and_query_in(target);
+            Ok(Sound {
+                host,
+                path,
+                query,
+                framing,
+            })
+        }
         Err(FramingFault::BadLength) => Err(HeadFault::BadLength),
         Err(FramingFault::BothLengths) => Err(HeadFault::BothLengths),
         Err(FramingFault::BadCoding) => Err(HeadFault::BadCoding),
@@ -182,15 +193,16 @@ fn request_of(
     requires lines { AreWithin buf.now lines.now }
     requires sound { IsSound method.now target.now version (lines_at buf.now lines.now) }
     requires host { head.now.host.now ≡ host_in target.now (lines_at buf.now lines.now) }
+    requires path { head.now.path.now ≡ path_of target.now }
+    requires query { option_map (λ q. q.now) head.now.query ≡ query_of target.now }
     requires framing { head.now.framing ≡ framing_by (encodings_of (lines_at buf.now lines.now)) (lengths_of (lines_at buf.now lines.now)) Framing.None }
     ensures { TakesRequest method.now target.now version (lines_at buf.now lines.now) peer result }
 {
-    let raw = path_in(target);
     let mut path = Vec::new(alloc);
-    if path.reserve(raw.len()).is_err() {
+    if path.reserve(head.path.len()).is_err() {
         return Err(RequestRefused::Memory);
     }
-    match normalise(raw, &mut path) {
+    match normalise(head.path, &mut path) {
         Ok(()) => match request_with(alloc, buf, lines, version, method, target, head, peer, path) {
             Ok(request) => Ok(request),
             Err(_) => Err(RequestRefused::Memory),
@@ -214,11 +226,12 @@ fn request_with(
 ) -> Result<Request, Memory>
     requires lines { AreWithin buf.now lines.now }
     requires host { head.now.host.now ≡ host_in target.now (lines_at buf.now lines.now) }
+    requires query { option_map (λ q. q.now) head.now.query ≡ query_of target.now }
     requires framing { head.now.framing ≡ framing_by (encodings_of (lines_at buf.now lines.now)) (lengths_of (lines_at buf.now lines.now)) Framing.None }
     requires path { Normalises (path_of target.now) path.items }
     ensures { IfOk result (IsRequestOf method.now target.now version (lines_at buf.now lines.now) peer) }
 {
-    let query = copied(alloc, query_in(target))?;
+    let query = copied(alloc, head.query)?;
     let options = options_of(buf, lines);
     let keep = version == 1 && !is_option(buf, lines, &options, b"close");
     let lines = backend_lines(alloc, buf, lines, &options, head.host, peer)?;

@@ -69,21 +69,22 @@ fn path_with_query(target: &[u8]) -> &[u8]
     }
 }
 
-/// The path, which is a slash where the target has none.
-pub(crate) fn path_in(target: &[u8]) -> &[u8]
-    ensures { result.now ≡ path_of target.now }
+/// The path, which is a slash where the target has none, and what stands behind the first question mark.
+pub(crate) fn path_and_query_in(target: &[u8]) -> (&[u8], Option<&[u8]>)
+    ensures path { result.0.now ≡ path_of target.now }
+    ensures query { option_map (λ q. q.now) result.1 ≡ query_of target.now }
 {
-    let path = before_question(path_with_query(target));
-    if path.is_empty() { b"/" } else { path }
+    let all = path_with_query(target);
+    match question_at(all) {
+        Some(at) => (slash_if_empty(&all[..at]), Some(&all[at + 1..])),
+        None => (slash_if_empty(all), None),
+    }
 }
 
-fn before_question(text: &[u8]) -> &[u8]
-    ensures { result.now ≡ before_place (position is_question text.now) text.now }
+fn slash_if_empty(path: &[u8]) -> &[u8]
+    ensures { result.now ≡ or_slash path.now }
 {
-    match question_at(text) {
-        Some(at) => &text[..at],
-        None => text,
-    }
+    if path.is_empty() { b"/" } else { path }
 }
 
 fn question_at(text: &[u8]) -> Option<usize>
@@ -91,22 +92,6 @@ fn question_at(text: &[u8]) -> Option<usize>
     ensures within { IfSome result (λ at. at < length text.now) }
 {
     text.iter().position(|b| *b == b'?')
-}
-
-/// What stands behind the first question mark.
-pub(crate) fn query_in(target: &[u8]) -> Option<&[u8]>
-    ensures { option_map (λ q. q.now) result ≡ query_of target.now }
-{
-    after_question(path_with_query(target))
-}
-
-fn after_question(text: &[u8]) -> Option<&[u8]>
-    ensures { option_map (λ q. q.now) result ≡ behind_place (position is_question text.now) text.now }
-{
-    match question_at(text) {
-        Some(at) => Some(&text[at + 1..]),
-        None => None,
-    }
 }
 
 /// Whether the proxy doesn't take this target, or this host text with it.
