@@ -118,13 +118,14 @@ struct Sound<'a> {
     host: &'a [u8],
     path: &'a [u8],
     query: Option<&'a [u8]>,
+    options: Options<'a>,
     framing: Framing,
 }
 
 // What a head says that has no fault but perhaps a bad escape.
 fn read_head<'a>(
     buf: &'a [u8],
-    lines: &[HeaderSpan],
+    lines: &'a [HeaderSpan],
     version: u8,
     method: &[u8],
     target: &'a [u8],
@@ -133,6 +134,7 @@ fn read_head<'a>(
     ensures { let fields = lines_at buf.now lines.now in MatchResult result
         (λ s. IsSound method.now target.now version fields × (s.host.now ≡ host_in target.now fields)
         × (s.path.now ≡ path_of target.now) × (option_map (λ q. q.now) s.query ≡ query_of target.now)
+        × HoldOptions buf.now s.options.lines.now (option_map (λ o. o.now) s.options.only) lines.now
         × (s.framing ≡ framing_by (encodings_of fields) (lengths_of fields) Framing.None))
         (IsHeadFault method.now target.now version fields) }
 {
@@ -149,6 +151,7 @@ fn read_head<'a>(
                 host,
                 path,
                 query,
+                options: options_of(buf, lines),
                 framing,
             })
         }
@@ -195,6 +198,7 @@ fn request_of(
     requires host { head.now.host.now ≡ host_in target.now (lines_at buf.now lines.now) }
     requires path { head.now.path.now ≡ path_of target.now }
     requires query { option_map (λ q. q.now) head.now.query ≡ query_of target.now }
+    requires options { HoldOptions buf.now head.now.options.lines.now (option_map (λ o. o.now) head.now.options.only) lines.now }
     requires framing { head.now.framing ≡ framing_by (encodings_of (lines_at buf.now lines.now)) (lengths_of (lines_at buf.now lines.now)) Framing.None }
     ensures { TakesRequest method.now target.now version (lines_at buf.now lines.now) peer result }
 {
@@ -227,14 +231,14 @@ fn request_with(
     requires lines { AreWithin buf.now lines.now }
     requires host { head.now.host.now ≡ host_in target.now (lines_at buf.now lines.now) }
     requires query { option_map (λ q. q.now) head.now.query ≡ query_of target.now }
+    requires options { HoldOptions buf.now head.now.options.lines.now (option_map (λ o. o.now) head.now.options.only) lines.now }
     requires framing { head.now.framing ≡ framing_by (encodings_of (lines_at buf.now lines.now)) (lengths_of (lines_at buf.now lines.now)) Framing.None }
     requires path { Normalises (path_of target.now) path.items }
     ensures { IfOk result (IsRequestOf method.now target.now version (lines_at buf.now lines.now) peer) }
 {
     let query = copied(alloc, head.query)?;
-    let options = options_of(buf, lines);
-    let keep = version == 1 && !is_option(buf, lines, &options, b"close");
-    let lines = backend_lines(alloc, buf, lines, &options, head.host, peer)?;
+    let keep = may_go_on(buf, lines, &head.options, version);
+    let lines = backend_lines(alloc, buf, lines, &head.options, head.host, peer)?;
     Ok(Request {
         method: Bytes::from_slice(alloc, method)?,
         host: Bytes::from_slice(alloc, head.host)?,
@@ -245,6 +249,14 @@ fn request_with(
         version,
         keep,
     })
+}
+
+// Whether the client's connection may go on.
+fn may_go_on(buf: &[u8], lines: &[HeaderSpan], options: &Options<'_>, version: u8) -> bool
+    requires { HoldOptions buf.now options.now.lines.now (option_map (λ o. o.now) options.now.only) lines.now }
+    ensures { result ≡ keeps version (lines_at buf.now lines.now) }
+{
+    version == 1 && !is_option(buf, lines, options, b"close")
 }
 
 fn copied(alloc: Global, text: Option<&[u8]>) -> Result<Option<Bytes>, Memory>
