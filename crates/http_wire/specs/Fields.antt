@@ -46,10 +46,14 @@ abbrev pub IsOnlyOption : List Field → List ℕ → Type 0
 IsOnlyOption fields option = (name : List ℕ) → is_listed fields name ≡ str_eq_ignore_ascii_case option name
 
 -- some lines have the options of all, and `only` is the one option where it is told
-pub record HoldOptions (buf : List ℕ) (some : List HeaderSpan) (only : Option (List ℕ)) (all : List HeaderSpan) : Type 0 where
+pub record HaveOptions (buf : List ℕ) (some : List HeaderSpan) (only : Option (List ℕ)) (all : List HeaderSpan) : Type 0 where
   pub within : AreWithin buf some
   pub same : HaveSameOptions buf some all
   pub alone : ForSome only (IsOnlyOption (lines_at buf all))
+
+-- the same, for those that only hand it on
+unfoldable pub HoldOptions : List ℕ → List HeaderSpan → Option (List ℕ) → List HeaderSpan → Type 0
+HoldOptions buf some only all = HaveOptions buf some only all
 
 -- the names that speak of one connection alone
 abbrev pub is_hop_by_hop : Field → Bool

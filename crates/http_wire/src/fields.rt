@@ -1,6 +1,6 @@
 //! The field lines of a head that lies in a buffer (RFC 9110 section 5).
-ghost use Rattle.std.specs.Prelude.{◌≡◌, ◌≢◌, ◌&&◌, codes, ◌↔◌, ◌++◌, ◌∷◌, ◌<◌, [], List, false, ℕ, All, IsTrue, IfOk, IfSome, MatchOption, length, map, filter, nat_le, take};
-ghost use Rattle.std.specs.List.{list_all, list_any};
+ghost use Rattle.std.specs.Prelude.{◌≡◌, ◌≢◌, ◌&&◌, codes, ◌↔◌, ◌++◌, ◌∷◌, ◌<◌, [], List, false, ℕ, All, IsTrue, IfSome, MatchOption, length, map, nat_le, take};
+ghost use Rattle.std.specs.List.{list_all};
 ghost use Rattle.std.specs.Option.{option_map};
 ghost use Rattle.std.specs.Str.{str_eq_ignore_ascii_case};
 ghost use Rattle.httparse.specs.Spans.{IsHeaderWithin, header_bytes};
@@ -148,6 +148,7 @@ fn is_of_one_hop(buf: &[u8], line: &HeaderSpan) -> bool
 }
 
 /// Whether a `Connection` line among `lines`, which have these options, lists this name, without case.
+#[tactic(auto, unfolding(crate::specs::Fields::HoldOptions))]
 pub(crate) fn is_option(
     buf: &[u8],
     lines: &[HeaderSpan],
@@ -190,6 +191,7 @@ fn is_option_line(buf: &[u8], line: &HeaderSpan, name: &[u8]) -> bool
 }
 
 /// The options of these lines.
+#[tactic(auto, unfolding(crate::specs::Fields::HoldOptions))]
 pub(crate) fn options_of<'a>(buf: &'a [u8], lines: &'a [HeaderSpan]) -> Options<'a>
     requires { AreWithin buf.now lines.now }
     ensures { HoldOptions buf.now result.lines.now (option_map (λ o. o.now) result.only) lines.now }

@@ -1,12 +1,12 @@
 //! Replies of backends, as they are taken from the bytes of their heads.
-ghost use Rattle.std.specs.Prelude.{◌≡◌, ◌≢◌, ℕ, IsTrue, not, IfOk, MatchResult, length, take};
+ghost use Rattle.std.specs.Prelude.{◌≡◌, IsTrue, not, IfOk, MatchResult, length, take};
 ghost use Rattle.std.specs.List.{filter};
 ghost use Rattle.std.specs.Option.{option_map};
 ghost use Rattle.httparse.specs.Spans.{IsHeaderWithin, IsWithin, header_bytes, span_bytes};
 ghost use Rattle.head_view.specs.Lines.{AreWithin, lines_at};
 ghost use Rattle.head_view.specs.Replies.{IsHeadWithin};
 ghost use Rattle.http_wire.specs.Fields.{HoldOptions};
-ghost use Rattle.http_wire.specs.Replies.{is_interim, is_head, has_no_body, tells_length, is_kept, reply_framing_of, IsReplyOf, IsReplyFault, HasNoFault, IfRefused};
+ghost use Rattle.http_wire.specs.Replies.{is_interim, is_head, has_no_body, is_kept, reply_framing_of, IsReplyOf, IsReplyFault, HasNoFault, IfRefused};
 
 use crate::fields::{Options, does_go_on, is_named, options_of};
 use crate::framing::{FramingFault, framing_of};

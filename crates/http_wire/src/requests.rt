@@ -1,18 +1,17 @@
 //! Requests of clients, as they are taken from the bytes of their heads.
-ghost use Rattle.std.specs.Prelude.{◌≡◌, ◌≢◌, ◌⊎◌, ◌++◌, ◌∷◌, [], ℕ, List as ListOf, IsTrue, IfOk, OnOk, MatchResult, length, take};
+ghost use Rattle.std.specs.Prelude.{◌≡◌, ◌++◌, ℕ, List as ListOf, IfOk, OnOk, MatchResult, length, take};
 ghost use Rattle.std.specs.List.{filter};
 ghost use Rattle.std.specs.Option.{option_map};
-ghost use Rattle.httparse.specs.Spans.{IsHeaderWithin, IsWithin, header_bytes, span_bytes};
+ghost use Rattle.httparse.specs.Spans.{IsHeaderWithin, header_bytes, span_bytes};
 ghost use Rattle.std.specs.Net.Text.{dotted_text};
 ghost use Rattle.ip_net.specs.Texts.{ip_print};
-ghost use Rattle.path_norm.specs.Escapes.{HasWholeEscapes};
-ghost use Rattle.path_norm.specs.Normal.{IsRooted, Normalises};
+ghost use Rattle.path_norm.specs.Normal.{Normalises};
 ghost use Rattle.head_view.specs.Lines.{AreWithin, lines_at};
 ghost use Rattle.head_view.specs.Scans.{IsHeadWithin};
 ghost use Rattle.http_wire.specs.Fields.{HoldOptions};
-ghost use Rattle.http_wire.specs.Framing.{encodings_of, lengths_of, framing_by, IsFramed};
-ghost use Rattle.http_wire.specs.Targets.{path_of, query_of, is_bad_target};
-ghost use Rattle.http_wire.specs.Requests.{hosts_of, first_or_empty, host_in, HasNoHost, HasTwoHosts, IsHosted, is_forwarded, is_replaced, goes_to_backend, told_fields, lines_for_backend, keeps, IsRequestOf, IsBadTarget, IsSound, IsHeadFault, TakesRequest};
+ghost use Rattle.http_wire.specs.Framing.{encodings_of, lengths_of, framing_by};
+ghost use Rattle.http_wire.specs.Targets.{path_of, query_of};
+ghost use Rattle.http_wire.specs.Requests.{hosts_of, first_or_empty, host_in, IsHosted, is_forwarded, is_replaced, goes_to_backend, told_fields, lines_for_backend, keeps, IsRequestOf, IsSound, IsHeadFault, TakesRequest};
 
 use crate::fields::{
     Options, begins_with, does_go_on, first_named, has_none, is_named, is_option, options_of,
@@ -20,6 +19,7 @@ use crate::fields::{
 use crate::framing::{FramingFault, framing_of};
 use crate::lines::{FieldLines, room_of};
 use crate::message::Request;
+use crate::spell::push_number;
 use crate::targets::{host_text, is_refused_target, path_and_query_in, port_in};
 use body_codec::Framing;
 use head_view::HeadSpans;
@@ -305,12 +305,9 @@ fn push_dotted(a: u8, b: u8, c: u8, d: u8, out: &mut Vec<u8>) -> Result<(), Memo
     ensures { OnOk result (out.new.items ≡ out.old.items ++ dotted_text a b c d) }
 {
     print_decimal(a as u64, out)?;
-    out.extend_from_slice(b".")?;
-    print_decimal(b as u64, out)?;
-    out.extend_from_slice(b".")?;
-    print_decimal(c as u64, out)?;
-    out.extend_from_slice(b".")?;
-    print_decimal(d as u64, out)
+    push_number(b".", b as u64, out)?;
+    push_number(b".", c as u64, out)?;
+    push_number(b".", d as u64, out)
 }
 
 // The client's lines that go on, with room for what is told of the client.
