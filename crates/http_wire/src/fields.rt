@@ -1,5 +1,5 @@
 //! The field lines of a head that lies in a buffer (RFC 9110 section 5).
-ghost use Rattle.std.specs.Prelude.{◌≡◌, ◌≢◌, ◌&&◌, codes, ◌↔◌, ◌++◌, ◌∷◌, ◌<◌, [], List, false, ℕ, All, IsTrue, IfSome, MatchOption, length, map, nat_le, take};
+ghost use Rattle.std.specs.Prelude.{◌≡◌, ◌≢◌, ◌&&◌, codes, ◌↔◌, ◌++◌, ◌∷◌, ◌<◌, [], List, false, ℕ, All, IsTrue, IfSome, MatchOption, length, nat_le, take};
 ghost use Rattle.std.specs.List.{list_all};
 ghost use Rattle.std.specs.Option.{option_map};
 ghost use Rattle.std.specs.Str.{str_eq_ignore_ascii_case};
@@ -177,17 +177,12 @@ fn is_in_connection(buf: &[u8], lines: &[HeaderSpan], name: &[u8]) -> bool
     false
 }
 
-// Whether this is a `Connection` line that lists the name. A value that is too short isn't looked at.
-#[tactic(auto, using(crate::proofs::Options::too_short))]
+// Whether this is a `Connection` line that lists the name.
 fn is_option_line(buf: &[u8], line: &HeaderSpan, name: &[u8]) -> bool
     requires { IsHeaderWithin (length buf.now) line.now }
     ensures { let field = header_bytes buf.now line.now in result ≡ (has_name (codes "Connection") field && lists name.now field.1) }
 {
-    let value = line.value.of(buf);
-    if value.len() < name.len() {
-        return false;
-    }
-    is_named(buf, line, b"Connection") && is_among(value, name)
+    is_named(buf, line, b"Connection") && is_among(line.value.of(buf), name)
 }
 
 /// The options of these lines.
@@ -217,7 +212,7 @@ fn only_option<'a>(buf: &'a [u8], lines: &[HeaderSpan]) -> Option<&'a [u8]>
     }
 }
 
-// The lines from the first `Connection` line to the last one: the others list nothing.
+// The lines from the first `Connection` line on: those before it list nothing.
 fn option_lines<'a>(buf: &[u8], lines: &'a [HeaderSpan]) -> &'a [HeaderSpan]
     requires { AreWithin buf.now lines.now }
     ensures within { AreWithin buf.now result.now }
@@ -226,25 +221,9 @@ fn option_lines<'a>(buf: &[u8], lines: &'a [HeaderSpan]) -> &'a [HeaderSpan]
     let mut left = lines;
     while let Some((line, rest)) = left.split_first() {
         if is_named(buf, line, b"Connection") {
-            return to_last_option(buf, left);
-        }
-        left = rest;
-    }
-    left
-}
-
-// The lines up to the last `Connection` line.
-fn to_last_option<'a>(buf: &[u8], lines: &'a [HeaderSpan]) -> &'a [HeaderSpan]
-    requires { AreWithin buf.now lines.now }
-    ensures within { AreWithin buf.now result.now }
-    ensures same { HaveSameOptions buf.now result.now lines.now }
-{
-    let mut left = lines;
-    while let Some((line, front)) = left.split_last() {
-        if is_named(buf, line, b"Connection") {
             return left;
         }
-        left = front;
+        left = rest;
     }
     left
 }

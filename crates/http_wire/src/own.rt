@@ -1,5 +1,5 @@
 //! The replies that the proxy makes by itself: errors with one line of text, and redirects.
-ghost use Rattle.std.specs.Prelude.{◌≡◌, ◌↔◌, ◌||◌, ◌++◌, ◌∷◌, [], IfOk, IsTrue, IsSome, option_map, codes, length};
+ghost use Rattle.std.specs.Prelude.{◌≡◌, ◌↔◌, ◌||◌, ◌∷◌, [], IfOk, IsTrue, IsSome, option_map, length};
 ghost use Rattle.std.specs.Str.{str_to_ascii_lowercase};
 ghost use Rattle.http_wire.specs.Own.{is_redirect, is_own_error, own_reason, own_words, content_of, IsOwnReply};
 

@@ -1,8 +1,8 @@
 //! How messages are spelled, byte for byte (RFC 9112): requests to a backend, replies to a client.
 ghost use Rattle.std.specs.Prelude.{◌≡◌, ◌++◌, OnOk, OnErr, IfOk, codes};
 ghost use Rattle.std.specs.Fmt.{decimal};
-ghost use Rattle.http_wire.specs.Lines.{Keeps, crlf, field_text, fields_text};
-ghost use Rattle.http_wire.specs.Spelling.{target_text, host_text, request_framing, request_line, request_text, reply_framing, close_text, status_line, reply_text};
+ghost use Rattle.http_wire.specs.Lines.{Keeps, crlf, field_text};
+ghost use Rattle.http_wire.specs.Spelling.{target_text, request_framing, request_line, request_text, reply_framing, close_text, status_line, reply_text};
 
 use crate::message::{Reply, Request};
 use body_codec::Framing;

@@ -1,9 +1,8 @@
 //! What a request's target and its host text say (RFC 9112 section 3.2).
-ghost use Rattle.std.specs.Prelude.{◌≡◌, ℕ, List, ◌≤◌, ◌<◌, ◌∷◌, IfSome, IsTrue, Bool, length, take, drop};
+ghost use Rattle.std.specs.Prelude.{◌≡◌, ◌≤◌, ◌<◌, IfSome, length, take};
 ghost use Rattle.std.specs.List.{list_all, position};
 ghost use Rattle.std.specs.Option.{option_map};
-ghost use Rattle.path_norm.specs.Normal.{IsRooted};
-ghost use Rattle.http_wire.specs.Targets.{is_origin, is_absolute, ends_authority, behind_scheme, before_place, from_place, behind_place, authority_of, path_and_query, is_question, or_slash, path_of, query_of, host_text_of, is_target_byte, is_bad_target, last_digits, has_port, port_of, has_colon, without_port as text_without_port, host_of_rules as rule_host};
+ghost use Rattle.http_wire.specs.Targets.{is_origin, is_absolute, ends_authority, before_place, from_place, path_and_query, is_question, or_slash, path_of, query_of, host_text_of, is_target_byte, is_bad_target, last_digits, port_of, without_port as text_without_port, host_of_rules as rule_host};
 
 use crate::fields::begins_with;
 use px_base::without_last_dot;

@@ -15,6 +15,10 @@ use std::alloc::Global;
 use std::process::Abort;
 use std::test::Fail;
 
+fn expect_bytes(rt: &impl Abort, found: &[u8], wanted: &str) {
+    assert_eq!(rt; found, wanted.as_bytes());
+}
+
 // The request as it goes to the backend 127.0.0.1:9000, behind what stood there before.
 fn expect_request_text(
     rt: &impl Abort,
@@ -26,7 +30,7 @@ fn expect_request_text(
     let mut out = Vec::from_slice(alloc, b"before")?;
     spell_request(alloc, request, b"127.0.0.1:9000", pass_host, &mut out)?;
     match out.as_slice().strip_prefix(b"before") {
-        Some(added) => assert_eq!(rt; added, text.as_bytes()),
+        Some(added) => expect_bytes(rt, added, text),
         None => panic!(rt; "what stood there"),
     }
     Ok(())
@@ -67,7 +71,7 @@ fn expect_reply_text(
 ) -> Result<(), Fail> {
     let mut out = Vec::new(alloc);
     spell_reply(reply, version, close, &mut out)?;
-    assert_eq!(rt; out.as_slice(), text.as_bytes());
+    expect_bytes(rt, out.as_slice(), text);
     Ok(())
 }
 
@@ -140,7 +144,7 @@ fn expect_own_content(rt: &impl Abort, alloc: Global, status: u16, text: &str) -
     requires { IsTrue (is_own_error status) }
 {
     let content = own_content(alloc, status)?;
-    assert_eq!(rt; content.as_slice(), text.as_bytes());
+    expect_bytes(rt, content.as_slice(), text);
     Ok(())
 }
 
