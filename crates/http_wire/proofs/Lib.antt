@@ -1,4 +1,5 @@
 pub mod Codings
+pub mod Contents
 pub mod Heads
 pub mod Options
 pub mod Spelled

@@ -1,11 +1,12 @@
 -- The field lines of a head: what the values of one name list, and which lines go on.
-use Rattle.std.specs.Prelude.{◌≡◌, ℕ, ◌-◌, ◌==◌, Bool, not, ◌||◌, List, length, take, drop, map, codes, nat_eq}
+use Rattle.std.specs.Prelude.{◌≡◌, ℕ, ◌-◌, ◌==◌, Bool, not, ◌||◌, List, Option, length, take, drop, map, codes, nat_eq}
 use Rattle.std.specs.List.{slice_split, list_any, prefix_len, suffix_len}
+use Rattle.std.specs.Option.{ForSome}
 use Rattle.std.specs.Cmp.Lexicographic.{pointwise}
 use Rattle.std.specs.Char.{is_ascii_whitespace}
 use Rattle.std.specs.Str.{str_eq_ignore_ascii_case}
 use Rattle.httparse.specs.declared.spans.HeaderSpan.{HeaderSpan}
-use Rattle.head_view.specs.Lines.{Line as Field, has_name, values_of, lines_at}
+use Rattle.head_view.specs.Lines.{Line as Field, AreWithin, has_name, values_of, lines_at}
 
 -- the same bytes
 abbrev pub is_same : List ℕ → List ℕ → Bool
@@ -39,6 +40,20 @@ is_listed fields name = list_any (lists name) (values_of (codes "Connection") fi
 -- the `Connection` lines of both say the same
 abbrev pub HaveSameOptions : List ℕ → List HeaderSpan → List HeaderSpan → Type 0
 HaveSameOptions buf some all = values_of (codes "Connection") (lines_at buf some) ≡ values_of (codes "Connection") (lines_at buf all)
+
+-- the `Connection` lines list this name and no other
+abbrev pub IsOnlyOption : List Field → List ℕ → Type 0
+IsOnlyOption fields option = (name : List ℕ) → is_listed fields name ≡ str_eq_ignore_ascii_case option name
+
+-- some lines have the options of all, and `only` is the one option where it is told
+pub record HaveOptions (buf : List ℕ) (some : List HeaderSpan) (only : Option (List ℕ)) (all : List HeaderSpan) : Type 0 where
+  pub within : AreWithin buf some
+  pub same : HaveSameOptions buf some all
+  pub alone : ForSome only (IsOnlyOption (lines_at buf all))
+
+-- the same, for those that only hand it on
+unfoldable pub HoldOptions : List ℕ → List HeaderSpan → Option (List ℕ) → List HeaderSpan → Type 0
+HoldOptions buf some only all = HaveOptions buf some only all
 
 -- the names that speak of one connection alone
 abbrev pub is_hop_by_hop : Field → Bool

@@ -1,10 +1,11 @@
 //! The field lines of a head that lies in a buffer (RFC 9110 section 5).
-ghost use Rattle.std.specs.Prelude.{◌≡◌, ◌≢◌, ◌&&◌, codes, ◌↔◌, ◌++◌, ◌∷◌, ◌<◌, [], List, false, ℕ, All, IsTrue, IfOk, MatchOption, length, map, filter};
-ghost use Rattle.std.specs.List.{list_all, list_any};
+ghost use Rattle.std.specs.Prelude.{◌≡◌, ◌≢◌, ◌&&◌, codes, ◌↔◌, ◌++◌, ◌∷◌, ◌<◌, [], List, false, ℕ, All, IsTrue, IfSome, MatchOption, length, nat_le, take};
+ghost use Rattle.std.specs.List.{list_all};
+ghost use Rattle.std.specs.Option.{option_map};
 ghost use Rattle.std.specs.Str.{str_eq_ignore_ascii_case};
 ghost use Rattle.httparse.specs.Spans.{IsHeaderWithin, header_bytes};
 ghost use Rattle.head_view.specs.Lines.{AreWithin, lines_at, has_name, values_of};
-ghost use Rattle.http_wire.specs.Fields.{is_same, is_comma, trimmed, elements, lists, is_listed, is_hop_by_hop, goes_on, HaveSameOptions};
+ghost use Rattle.http_wire.specs.Fields.{is_same, is_comma, trimmed, elements, lists, is_listed, is_hop_by_hop, goes_on, HaveSameOptions, HoldOptions, IsOnlyOption};
 
 use httparse::spans::HeaderSpan;
 use px_base::fold_equal;
@@ -95,6 +96,13 @@ pub(crate) fn has_only(buf: &[u8], lines: &[HeaderSpan], name: &[u8], value: &[u
     true
 }
 
+/// Whether the text begins with these bytes, without case.
+pub(crate) fn begins_with(text: &[u8], prefix: &[u8]) -> bool
+    ensures { result ≡ (nat_le (length prefix.now) (length text.now) && str_eq_ignore_ascii_case (take (length prefix.now) text.now) prefix.now) }
+{
+    text.len() >= prefix.len() && fold_equal(&text[..prefix.len()], prefix)
+}
+
 /// The text without the blanks round it.
 pub(crate) fn trim(text: &[u8]) -> &[u8]
     ensures { result.now ≡ trimmed text.now }
@@ -102,14 +110,28 @@ pub(crate) fn trim(text: &[u8]) -> &[u8]
     text.trim_ascii()
 }
 
-/// Whether the line goes on, among these: it is no matter of one connection alone (RFC 9110
+/// What the `Connection` lines of a head list.
+#[derive(Clone, Copy)]
+pub(crate) struct Options<'a> {
+    /// Some lines, with all `Connection` lines among them.
+    lines: &'a [HeaderSpan],
+    /// The one option, where they list no other.
+    only: Option<&'a [u8]>,
+}
+
+/// Whether the line goes on, among `lines` with these options: it is no matter of one connection alone (RFC 9110
 /// section 7.6.1).
-pub(crate) fn does_go_on(buf: &[u8], lines: &[HeaderSpan], line: &HeaderSpan) -> bool
-    requires all { AreWithin buf.now lines.now }
+pub(crate) fn does_go_on(
+    buf: &[u8],
+    lines: &[HeaderSpan],
+    options: &Options<'_>,
+    line: &HeaderSpan,
+) -> bool
+    requires options { HoldOptions buf.now options.now.lines.now (option_map (λ o. o.now) options.now.only) lines.now }
     requires one { IsHeaderWithin (length buf.now) line.now }
     ensures { result ≡ goes_on (lines_at buf.now lines.now) (header_bytes buf.now line.now) }
 {
-    !is_of_one_hop(buf, line) && !is_in_connection(buf, lines, line.name.of(buf))
+    !is_of_one_hop(buf, line) && !is_option(buf, lines, options, line.name.of(buf))
 }
 
 fn is_of_one_hop(buf: &[u8], line: &HeaderSpan) -> bool
@@ -125,8 +147,25 @@ fn is_of_one_hop(buf: &[u8], line: &HeaderSpan) -> bool
         || is_named(buf, line, b"Upgrade")
 }
 
-/// Whether a `Connection` line lists this name, without case.
-pub(crate) fn is_in_connection(buf: &[u8], lines: &[HeaderSpan], name: &[u8]) -> bool
+/// Whether a `Connection` line among `lines`, which have these options, lists this name, without case.
+#[tactic(auto, unfolding(crate::specs::Fields::HoldOptions))]
+pub(crate) fn is_option(
+    buf: &[u8],
+    lines: &[HeaderSpan],
+    options: &Options<'_>,
+    name: &[u8],
+) -> bool
+    requires { HoldOptions buf.now options.now.lines.now (option_map (λ o. o.now) options.now.only) lines.now }
+    ensures { result ≡ is_listed (lines_at buf.now lines.now) name.now }
+{
+    match options.only {
+        Some(only) => fold_equal(only, name),
+        None => is_in_connection(buf, options.lines, name),
+    }
+}
+
+// Whether a `Connection` line lists this name, without case.
+fn is_in_connection(buf: &[u8], lines: &[HeaderSpan], name: &[u8]) -> bool
     requires { AreWithin buf.now lines.now }
     ensures { result ≡ is_listed (lines_at buf.now lines.now) name.now }
 {
@@ -138,21 +177,43 @@ pub(crate) fn is_in_connection(buf: &[u8], lines: &[HeaderSpan], name: &[u8]) ->
     false
 }
 
-// Whether this is a `Connection` line that lists the name. A value that is too short isn't looked at.
-#[tactic(auto, using(crate::proofs::Options::too_short))]
+// Whether this is a `Connection` line that lists the name.
 fn is_option_line(buf: &[u8], line: &HeaderSpan, name: &[u8]) -> bool
     requires { IsHeaderWithin (length buf.now) line.now }
     ensures { let field = header_bytes buf.now line.now in result ≡ (has_name (codes "Connection") field && lists name.now field.1) }
 {
-    let value = line.value.of(buf);
-    if value.len() < name.len() {
-        return false;
-    }
-    is_named(buf, line, b"Connection") && is_among(value, name)
+    is_named(buf, line, b"Connection") && is_among(line.value.of(buf), name)
 }
 
-/// The lines from the first `Connection` line to the last one: the others list nothing.
-pub(crate) fn option_lines<'a>(buf: &[u8], lines: &'a [HeaderSpan]) -> &'a [HeaderSpan]
+/// The options of these lines.
+#[tactic(auto, unfolding(crate::specs::Fields::HoldOptions))]
+pub(crate) fn options_of<'a>(buf: &'a [u8], lines: &'a [HeaderSpan]) -> Options<'a>
+    requires { AreWithin buf.now lines.now }
+    ensures { HoldOptions buf.now result.lines.now (option_map (λ o. o.now) result.only) lines.now }
+{
+    let some = option_lines(buf, lines);
+    Options {
+        lines: some,
+        only: only_option(buf, some),
+    }
+}
+
+// The option that these lines list, where it is one.
+fn only_option<'a>(buf: &'a [u8], lines: &[HeaderSpan]) -> Option<&'a [u8]>
+    requires { AreWithin buf.now lines.now }
+    ensures { IfSome result (λ only. IsOnlyOption (lines_at buf.now lines.now) only.now) }
+{
+    let Some(value) = only_value(buf, lines, b"Connection") else {
+        return None;
+    };
+    match after_comma(value) {
+        Some(_) => None,
+        None => Some(trim(value)),
+    }
+}
+
+// The lines from the first `Connection` line on: those before it list nothing.
+fn option_lines<'a>(buf: &[u8], lines: &'a [HeaderSpan]) -> &'a [HeaderSpan]
     requires { AreWithin buf.now lines.now }
     ensures within { AreWithin buf.now result.now }
     ensures same { HaveSameOptions buf.now result.now lines.now }
@@ -160,25 +221,9 @@ pub(crate) fn option_lines<'a>(buf: &[u8], lines: &'a [HeaderSpan]) -> &'a [Head
     let mut left = lines;
     while let Some((line, rest)) = left.split_first() {
         if is_named(buf, line, b"Connection") {
-            return to_last_option(buf, left);
-        }
-        left = rest;
-    }
-    left
-}
-
-// The lines up to the last `Connection` line.
-fn to_last_option<'a>(buf: &[u8], lines: &'a [HeaderSpan]) -> &'a [HeaderSpan]
-    requires { AreWithin buf.now lines.now }
-    ensures within { AreWithin buf.now result.now }
-    ensures same { HaveSameOptions buf.now result.now lines.now }
-{
-    let mut left = lines;
-    while let Some((line, front)) = left.split_last() {
-        if is_named(buf, line, b"Connection") {
             return left;
         }
-        left = front;
+        left = rest;
     }
     left
 }

@@ -1,9 +1,8 @@
 //! How the fields of a head frame its body (RFC 9112 section 6).
-ghost use Rattle.std.specs.Prelude.{◌≡◌, ◌≢◌, ◌↔◌, ◌++◌, ◌∷◌, [], List, ℕ, IsTrue, MatchResult, MatchOption, SomeIff, ◌⊎◌};
+ghost use Rattle.std.specs.Prelude.{◌≡◌, ◌↔◌, [], IsTrue, MatchResult, SomeIff, ◌⊎◌};
 ghost use Rattle.std.specs.Str.Parse.{digits_value};
 ghost use Rattle.head_view.specs.Lines.{AreWithin, lines_at};
-ghost use Rattle.http_wire.specs.Fields.{elements};
-ghost use Rattle.http_wire.specs.Framing.{lengths_of, encodings_of, codings, IsLength, AreOneLength, IsChunked, EndInChunked, AreChunkedAlone, HasBadLength, HasBothLengths, HasBadCoding, IsFramingFault, IsFramed, first_length, framing_by};
+ghost use Rattle.http_wire.specs.Framing.{lengths_of, encodings_of, codings, IsLength, AreOneLength, IsChunked, EndInChunked, AreChunkedAlone, IsFramingFault, IsFramed, first_length, framing_by};
 
 use crate::fields::{
     after_comma, first_named, has_none, has_only, last_element, last_value, only_value, trim,

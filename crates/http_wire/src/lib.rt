@@ -9,8 +9,6 @@ mod own;
 mod replies;
 mod requests;
 mod spell;
-#[cfg(test)]
-mod taken_tests;
 mod targets;
 #[cfg(test)]
 mod tests;

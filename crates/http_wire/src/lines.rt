@@ -1,8 +1,9 @@
 //! Field lines of a message, all in one text (RFC 9112 section 5).
-ghost use Rattle.std.specs.Prelude.{◌≡◌, ◌+◌, ◌<◌, ◌≤◌, ◌↔◌, [], ◌∷◌, ◌++◌, Some, IsTrue, IfOk, IfSome, OnOk, OnErr, codes, length, slice_get};
+ghost use Rattle.std.specs.Prelude.{◌≡◌, ◌+◌, ◌<◌, ◌≤◌, ◌↔◌, [], ◌∷◌, ◌++◌, Some, IsTrue, IfOk, IfSome, OnOk, OnErr, codes, length};
+ghost use Rattle.std.specs.Option.{ForSome};
 ghost use Rattle.httparse.specs.Spans.{IsHeaderWithin, header_bytes, span_bytes};
-ghost use Rattle.head_view.specs.Lines.{AreWithin, lines_at};
-ghost use Rattle.http_wire.specs.Lines.{AreSpelled, Keeps, field_text, fields_text, span_at};
+ghost use Rattle.head_view.specs.Lines.{lines_at};
+ghost use Rattle.http_wire.specs.Lines.{AreSpelled, Keeps, crlf, field_text, fields_text, span_at};
 
 use httparse::spans::{HeaderSpan, Span};
 use px_base::Memory;
@@ -51,18 +52,6 @@ impl FieldLines {
         Ok(FieldLines { text, spans })
     }
 
-    pub fn len(&self) -> usize
-        ensures { result ≡ length self.now }
-    {
-        self.spans.as_slice().len()
-    }
-
-    pub fn is_empty(&self) -> bool
-        ensures { IsTrue result ↔ (self.now ≡ []) }
-    {
-        self.spans.as_slice().is_empty()
-    }
-
     /// The lines as they are spelled, one behind the other.
     pub fn text(&self) -> &[u8]
         ensures { result.now ≡ fields_text self.now }
@@ -70,20 +59,26 @@ impl FieldLines {
         self.text.as_slice()
     }
 
-    /// The name and the value of a line.
-    pub fn line(&self, at: usize) -> (&[u8], &[u8])
-        requires { at < length self.now }
-        ensures { slice_get self.now at ≡ Some (result.0.now, result.1.now) }
-    {
-        line_in(self.text.as_slice(), self.spans.as_slice(), at)
-    }
-
     /// Adds a line at the end. Where memory runs out the lines stay as they were.
     pub fn push(&mut self, name: &[u8], value: &[u8]) -> Result<(), Memory>
         ensures ok { OnOk result (self.new ≡ self.old ++ (name.now, value.now) ∷ []) }
         ensures err { OnErr result (self.new ≡ self.old) }
     {
-        add_field(&mut self.text, &mut self.spans, name, value)
+        add_field(&mut self.text, &mut self.spans, name, value, None)
+    }
+
+    /// Adds a line that is spelled so. Where memory runs out the lines stay as they were.
+    pub(crate) fn push_whole(
+        &mut self,
+        whole: &[u8],
+        name: &[u8],
+        value: &[u8],
+    ) -> Result<(), Memory>
+        requires { whole.now ≡ field_text name.now value.now }
+        ensures ok { OnOk result (self.new ≡ self.old ++ (name.now, value.now) ∷ []) }
+        ensures err { OnErr result (self.new ≡ self.old) }
+    {
+        add_field(&mut self.text, &mut self.spans, name, value, Some(whole))
     }
 
     /// Adds a line of the head in `buf`. Where memory runs out the lines stay as they were.
@@ -94,12 +89,14 @@ impl FieldLines {
         ensures ok { OnOk result (self.new ≡ self.old ++ header_bytes buf.now line.now ∷ []) }
         ensures err { OnErr result (self.new ≡ self.old) }
     {
-        let name = line.name.of(buf);
-        let value = line.value.of(buf);
-        match spelled_at(buf, line) {
-            Some(whole) => add_whole(&mut self.text, &mut self.spans, whole, name, value),
-            None => add_field(&mut self.text, &mut self.spans, name, value),
-        }
+        let whole = spelled_at(buf, line);
+        add_field(
+            &mut self.text,
+            &mut self.spans,
+            line.name.of(buf),
+            line.value.of(buf),
+            whole,
+        )
     }
 }
 
@@ -115,16 +112,6 @@ pub(crate) fn room_of(lines: &[HeaderSpan]) -> usize {
     }
 }
 
-// The name and the value of a line, among those that the spans cover.
-fn line_in<'a>(text: &'a [u8], spans: &[HeaderSpan], at: usize) -> (&'a [u8], &'a [u8])
-    requires within { AreWithin text.now spans.now }
-    requires there { at < length spans.now }
-    ensures { slice_get (lines_at text.now spans.now) at ≡ Some (result.0.now, result.1.now) }
-{
-    let span = spans[at];
-    (span.name.of(text), span.value.of(text))
-}
-
 // The bytes of a line with its end, where a colon and a space stand between its name and its value, and CR LF behind
 // them.
 fn spelled_at<'a>(buf: &'a [u8], line: &HeaderSpan) -> Option<&'a [u8]>
@@ -137,59 +124,43 @@ fn spelled_at<'a>(buf: &'a [u8], line: &HeaderSpan) -> Option<&'a [u8]>
         return None;
     }
     let end = value.end + 2;
-    if is_text(&buf[name.end..value.start], b": ") && is_text(&buf[value.end..end], b"\r\n") {
+    if is_gap(&buf[name.end..value.start]) && is_line_end(&buf[value.end..end]) {
         Some(&buf[name.start..end])
     } else {
         None
     }
 }
 
-fn is_text(a: &[u8], b: &[u8]) -> bool
-    ensures { IsTrue result ↔ (a.now ≡ b.now) }
+fn is_gap(text: &[u8]) -> bool
+    ensures { IsTrue result ↔ (text.now ≡ codes ": ") }
 {
-    a == b
+    matches!(text, [b':', b' '])
 }
 
-// Adds a line that is spelled in one piece. Where memory runs out the lines stay as they were.
-fn add_whole(
-    text: &mut Vec<u8>,
-    spans: &mut Vec<HeaderSpan>,
-    whole: &[u8],
-    name: &[u8],
-    value: &[u8],
-) -> Result<(), Memory>
-    requires spelled { AreSpelled text.old.items spans.old.items }
-    requires whole { whole.now ≡ field_text name.now value.now }
-    ensures spelled { AreSpelled text.new.items spans.new.items }
-    ensures ok { OnOk result (lines_at text.new.items spans.new.items
-        ≡ lines_at text.old.items spans.old.items ++ (name.now, value.now) ∷ []) }
-    ensures err { OnErr result (lines_at text.new.items spans.new.items ≡ lines_at text.old.items spans.old.items) }
+fn is_line_end(text: &[u8]) -> bool
+    ensures { IsTrue result ↔ (text.now ≡ crlf) }
 {
-    let at = text.as_slice().len();
-    match push_whole(text, spans, whole, name.len(), value.len()) {
-        Ok(()) => Ok(()),
-        Err(AllocError) => {
-            text.truncate(at);
-            Err(AllocError)
-        }
-    }
+    matches!(text, [b'\r', b'\n'])
 }
 
-// Adds a line. Where memory runs out the lines stay as they were.
+// Adds a line, whose spelling is `whole` where that stands in one piece. Where memory runs out the lines stay as they
+// were.
 fn add_field(
     text: &mut Vec<u8>,
     spans: &mut Vec<HeaderSpan>,
     name: &[u8],
     value: &[u8],
+    whole: Option<&[u8]>,
 ) -> Result<(), Memory>
-    requires { AreSpelled text.old.items spans.old.items }
+    requires spelled { AreSpelled text.old.items spans.old.items }
+    requires whole { ForSome whole (λ whole. whole.now ≡ field_text name.now value.now) }
     ensures spelled { AreSpelled text.new.items spans.new.items }
     ensures ok { OnOk result (lines_at text.new.items spans.new.items
         ≡ lines_at text.old.items spans.old.items ++ (name.now, value.now) ∷ []) }
     ensures err { OnErr result (lines_at text.new.items spans.new.items ≡ lines_at text.old.items spans.old.items) }
 {
     let at = text.as_slice().len();
-    match push_parts(text, spans, name, value) {
+    match push_field(text, spans, name, value, whole) {
         Ok(()) => Ok(()),
         Err(AllocError) => {
             text.truncate(at);
@@ -198,43 +169,41 @@ fn add_field(
     }
 }
 
-// Appends a line that is spelled in one piece, whose name and value have these lengths. Where memory runs out a part
-// may stand at the end.
-fn push_whole(
-    text: &mut Vec<u8>,
-    spans: &mut Vec<HeaderSpan>,
-    whole: &[u8],
-    name: usize,
-    value: usize,
-) -> Result<(), Memory>
-    requires { length whole.now ≡ name + 2 + value + 2 }
-    ensures text { OnOk result (text.new.items ≡ text.old.items ++ whole.now) }
-    ensures spans { OnOk result (spans.new.items ≡ spans.old.items ++ span_at (length text.old.items) name value ∷ []) }
-    ensures err { OnErr result (Keeps text.old.items text.new.items × (spans.new.items ≡ spans.old.items)) }
-{
-    let at = text.as_slice().len();
-    text.extend_from_slice(whole)?;
-    let all = text.as_slice().len();
-    spans.push(span_of(at, name, value, all))?;
-    Ok(())
-}
-
-// Appends a line. Where memory runs out a part may stand at the end.
-fn push_parts(
+// Appends a line. Where memory runs out a part may stand at the end of the text.
+fn push_field(
     text: &mut Vec<u8>,
     spans: &mut Vec<HeaderSpan>,
     name: &[u8],
     value: &[u8],
+    whole: Option<&[u8]>,
 ) -> Result<(), Memory>
+    requires { ForSome whole (λ whole. whole.now ≡ field_text name.now value.now) }
     ensures text { OnOk result (text.new.items ≡ text.old.items ++ field_text name.now value.now) }
     ensures spans { OnOk result (spans.new.items ≡ spans.old.items ++ span_at (length text.old.items) (length name.now) (length value.now) ∷ []) }
     ensures err { OnErr result (Keeps text.old.items text.new.items × (spans.new.items ≡ spans.old.items)) }
 {
     let at = text.as_slice().len();
-    push_field(name, value, text)?;
+    push_spelling(name, value, whole, text)?;
     let all = text.as_slice().len();
     spans.push(span_of(at, name.len(), value.len(), all))?;
     Ok(())
+}
+
+// Appends the spelling of a line. Where memory runs out a part may stand at the end.
+fn push_spelling(
+    name: &[u8],
+    value: &[u8],
+    whole: Option<&[u8]>,
+    out: &mut Vec<u8>,
+) -> Result<(), Memory>
+    requires { ForSome whole (λ whole. whole.now ≡ field_text name.now value.now) }
+    ensures ok { OnOk result (out.new.items ≡ out.old.items ++ field_text name.now value.now) }
+    ensures err { OnErr result (Keeps out.old.items out.new.items) }
+{
+    match whole {
+        Some(whole) => out.extend_from_slice(whole),
+        None => push_parts(name, value, out),
+    }
 }
 
 // Where a line lies that is spelled at this place, in a text of `all` bytes.
@@ -255,9 +224,9 @@ fn span_of(at: usize, name: usize, value: usize, all: usize) -> HeaderSpan
     }
 }
 
-// Appends a line as it is spelled. Where memory runs out a part may stand at the end.
+// Appends the parts of a line. Where memory runs out some may stand at the end.
 #[tactic(auto, using(std::proofs::Common::append_assoc))]
-fn push_field(name: &[u8], value: &[u8], out: &mut Vec<u8>) -> Result<(), Memory>
+fn push_parts(name: &[u8], value: &[u8], out: &mut Vec<u8>) -> Result<(), Memory>
     ensures ok { OnOk result (out.new.items ≡ out.old.items ++ field_text name.now value.now) }
     ensures err { OnErr result (Keeps out.old.items out.new.items) }
 {

@@ -1,5 +1,5 @@
 //! The replies that the proxy makes by itself: errors with one line of text, and redirects.
-ghost use Rattle.std.specs.Prelude.{◌≡◌, ◌↔◌, ◌||◌, ◌++◌, ◌∷◌, [], IfOk, IsTrue, IsSome, option_map, codes, length};
+ghost use Rattle.std.specs.Prelude.{◌≡◌, ◌↔◌, ◌||◌, ◌∷◌, [], IfOk, IsTrue, IsSome, option_map, length};
 ghost use Rattle.std.specs.Str.{str_to_ascii_lowercase};
 ghost use Rattle.http_wire.specs.Own.{is_redirect, is_own_error, own_reason, own_words, content_of, IsOwnReply};
 
@@ -28,7 +28,7 @@ pub fn own_content(alloc: Global, status: u16) -> Result<Vec<u8>, Memory>
     requires { IsTrue (is_own_error status) }
     ensures { IfOk result (λ text. text.items ≡ content_of status) }
 {
-    let words = words_of(alloc, status)?;
+    let words = lowered(alloc, words_of(status))?;
     let mut text = Vec::new(alloc);
     print_decimal(status as u64, &mut text)?;
     text.extend_from_slice(b" ")?;
@@ -37,13 +37,15 @@ pub fn own_content(alloc: Global, status: u16) -> Result<Vec<u8>, Memory>
     Ok(text)
 }
 
-fn words_of(alloc: Global, status: u16) -> Result<Vec<u8>, Memory>
-    ensures { IfOk result (λ words. words.items ≡ own_words status) }
+// What the content says behind the status, perhaps with capitals.
+fn words_of(status: u16) -> &'static [u8]
+    ensures { str_to_ascii_lowercase result.now ≡ own_words status }
 {
     if status == 404 {
-        return Vec::from_slice(alloc, b"page not found");
+        b"page not found"
+    } else {
+        reason_of(status)
     }
-    lowered(alloc, reason_of(status))
 }
 
 fn lowered(alloc: Global, text: &[u8]) -> Result<Vec<u8>, Memory>
@@ -73,18 +75,24 @@ fn reason_of(status: u16) -> &'static [u8]
     }
 }
 
+// How long the content of an own error is: three digits, a blank, the words and a line end.
+fn content_len(status: u16) -> u64
+    requires { IsTrue (is_own_error status) }
+    ensures { result ≡ length (content_of status) }
+{
+    words_of(status).len() as u64 + 5
+}
+
 fn error(alloc: Global, status: u16) -> Result<Reply, Memory>
     requires { IsTrue (is_own_error status) }
     ensures { IfOk result (IsOwnReply status None) }
 {
-    let content = own_content(alloc, status)?;
-    let len = content.len() as u64;
     reply_of(
         alloc,
         status,
         b"Content-Type",
         b"text/plain; charset=utf-8",
-        len,
+        content_len(status),
     )
 }
 

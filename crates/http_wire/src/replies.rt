@@ -1,13 +1,14 @@
 //! Replies of backends, as they are taken from the bytes of their heads.
-ghost use Rattle.std.specs.Prelude.{◌≡◌, ◌≢◌, ℕ, IsTrue, not, IfOk, MatchResult, length, take};
+ghost use Rattle.std.specs.Prelude.{◌≡◌, IsTrue, not, IfOk, MatchResult, length, take};
 ghost use Rattle.std.specs.List.{filter};
+ghost use Rattle.std.specs.Option.{option_map};
 ghost use Rattle.httparse.specs.Spans.{IsHeaderWithin, IsWithin, header_bytes, span_bytes};
 ghost use Rattle.head_view.specs.Lines.{AreWithin, lines_at};
 ghost use Rattle.head_view.specs.Replies.{IsHeadWithin};
-ghost use Rattle.http_wire.specs.Fields.{HaveSameOptions};
-ghost use Rattle.http_wire.specs.Replies.{is_interim, is_head, has_no_body, tells_length, is_kept, reply_framing_of, IsReplyOf, IsReplyFault, HasNoFault, IfRefused};
+ghost use Rattle.http_wire.specs.Fields.{HoldOptions};
+ghost use Rattle.http_wire.specs.Replies.{is_interim, is_head, has_no_body, is_kept, reply_framing_of, IsReplyOf, IsReplyFault, HasNoFault, IfRefused};
 
-use crate::fields::{does_go_on, is_named, option_lines};
+use crate::fields::{Options, does_go_on, is_named, options_of};
 use crate::framing::{FramingFault, framing_of};
 use crate::lines::{FieldLines, room_of};
 use crate::message::Reply;
@@ -150,28 +151,27 @@ fn kept_lines(
     requires { AreWithin buf.now lines.now }
     ensures { IfOk result (λ kept. kept ≡ filter (is_kept tells (lines_at buf.now lines.now)) (lines_at buf.now lines.now)) }
 {
-    let options = option_lines(buf, lines);
+    let options = options_of(buf, lines);
     let mut kept = FieldLines::with_capacity(alloc, lines.len(), room_of(lines))?;
     for line in lines {
-        if is_kept_line(buf, lines, options, line, tells) {
+        if is_kept_line(buf, lines, &options, line, tells) {
             kept.push_line(buf, line)?;
         }
     }
     Ok(kept)
 }
 
-// Whether the line goes on to the client, among `lines`, whose `Connection` lines are all among `options`.
+// Whether the line goes on to the client, among `lines` with these options.
 fn is_kept_line(
     buf: &[u8],
     lines: &[HeaderSpan],
-    options: &[HeaderSpan],
+    options: &Options<'_>,
     line: &HeaderSpan,
     tells: bool,
 ) -> bool
-    requires within { AreWithin buf.now options.now }
-    requires same { HaveSameOptions buf.now options.now lines.now }
+    requires options { HoldOptions buf.now options.now.lines.now (option_map (λ o. o.now) options.now.only) lines.now }
     requires one { IsHeaderWithin (length buf.now) line.now }
     ensures { result ≡ is_kept tells (lines_at buf.now lines.now) (header_bytes buf.now line.now) }
 {
-    does_go_on(buf, options, line) && (tells || !is_named(buf, line, b"Content-Length"))
+    does_go_on(buf, lines, options, line) && (tells || !is_named(buf, line, b"Content-Length"))
 }

@@ -1,30 +1,32 @@
 //! Requests of clients, as they are taken from the bytes of their heads.
-ghost use Rattle.std.specs.Prelude.{◌≡◌, ◌≢◌, ◌⊎◌, ◌++◌, ◌∷◌, [], ℕ, List as ListOf, IsTrue, IfOk, OnOk, MatchResult, length, take};
+ghost use Rattle.std.specs.Prelude.{◌≡◌, ◌++◌, ℕ, List as ListOf, IfOk, OnOk, MatchResult, length, take};
 ghost use Rattle.std.specs.List.{filter};
 ghost use Rattle.std.specs.Option.{option_map};
-ghost use Rattle.httparse.specs.Spans.{IsHeaderWithin, IsWithin, header_bytes, span_bytes};
+ghost use Rattle.httparse.specs.Spans.{IsHeaderWithin, header_bytes, span_bytes};
 ghost use Rattle.std.specs.Net.Text.{dotted_text};
 ghost use Rattle.ip_net.specs.Texts.{ip_print};
-ghost use Rattle.path_norm.specs.Escapes.{HasWholeEscapes};
-ghost use Rattle.path_norm.specs.Normal.{IsRooted, Normalises};
+ghost use Rattle.path_norm.specs.Normal.{Normalises};
 ghost use Rattle.head_view.specs.Lines.{AreWithin, lines_at};
 ghost use Rattle.head_view.specs.Scans.{IsHeadWithin};
-ghost use Rattle.http_wire.specs.Fields.{HaveSameOptions};
-ghost use Rattle.http_wire.specs.Framing.{encodings_of, lengths_of, framing_by, IsFramed};
-ghost use Rattle.http_wire.specs.Targets.{path_of, query_of, is_bad_target};
-ghost use Rattle.http_wire.specs.Requests.{hosts_of, first_or_empty, host_in, HasNoHost, HasTwoHosts, IsHosted, is_forwarded, is_replaced, goes_to_backend, told_fields, lines_for_backend, keeps, IsRequestOf, IsBadTarget, IsSound, IsHeadFault, TakesRequest};
+ghost use Rattle.http_wire.specs.Fields.{HoldOptions};
+ghost use Rattle.http_wire.specs.Framing.{encodings_of, lengths_of, framing_by};
+ghost use Rattle.http_wire.specs.Targets.{path_of, query_of};
+ghost use Rattle.http_wire.specs.Requests.{hosts_of, first_or_empty, host_in, IsHosted, is_forwarded, is_replaced, goes_to_backend, told_fields, lines_for_backend, keeps, IsRequestOf, IsSound, IsHeadFault, TakesRequest};
 
-use crate::fields::{does_go_on, first_named, has_none, is_in_connection, is_named, option_lines};
+use crate::fields::{
+    Options, begins_with, does_go_on, first_named, has_none, is_named, is_option, options_of,
+};
 use crate::framing::{FramingFault, framing_of};
 use crate::lines::{FieldLines, room_of};
 use crate::message::Request;
-use crate::targets::{host_text, is_refused_target, path_in, port_in, query_in};
+use crate::spell::push_number;
+use crate::targets::{host_text, is_refused_target, path_and_query_in, port_in};
 use body_codec::Framing;
 use head_view::HeadSpans;
 use httparse::spans::HeaderSpan;
 use ip_net::{Ip, print_ip};
 use path_norm::{PathFault, normalise};
-use px_base::{Bytes, Memory, fold_equal, print_decimal};
+use px_base::{Bytes, Memory, print_decimal};
 use std::alloc::Global;
 
 /// As many lines say what the proxy knows of the client.
@@ -114,13 +116,16 @@ fn taken(
 #[derive(Clone, Copy)]
 struct Sound<'a> {
     host: &'a [u8],
+    path: &'a [u8],
+    query: Option<&'a [u8]>,
+    options: Options<'a>,
     framing: Framing,
 }
 
-// The host text and the framing of a head without a fault but perhaps a bad escape.
+// What a head says that has no fault but perhaps a bad escape.
 fn read_head<'a>(
     buf: &'a [u8],
-    lines: &[HeaderSpan],
+    lines: &'a [HeaderSpan],
     version: u8,
     method: &[u8],
     target: &'a [u8],
@@ -128,6 +133,8 @@ fn read_head<'a>(
     requires { AreWithin buf.now lines.now }
     ensures { let fields = lines_at buf.now lines.now in MatchResult result
         (λ s. IsSound method.now target.now version fields × (s.host.now ≡ host_in target.now fields)
+        × (s.path.now ≡ path_of target.now) × (option_map (λ q. q.now) s.query ≡ query_of target.now)
+        × HoldOptions buf.now s.options.lines.now (option_map (λ o. o.now) s.options.only) lines.now
         × (s.framing ≡ framing_by (encodings_of fields) (lengths_of fields) Framing.None))
         (IsHeadFault method.now target.now version fields) }
 {
@@ -138,7 +145,16 @@ fn read_head<'a>(
     let host = host_text(target, value);
     match framing_of(buf, lines, version, Framing::None) {
         Ok(_) if is_refused_target(method, target, host) => Err(HeadFault::BadTarget),
-        Ok(framing) => Ok(Sound { host, framing }),
+        Ok(framing) => {
+            let (path, query) = path_and_query_in(target);
+            Ok(Sound {
+                host,
+                path,
+                query,
+                options: options_of(buf, lines),
+                framing,
+            })
+        }
         Err(FramingFault::BadLength) => Err(HeadFault::BadLength),
         Err(FramingFault::BothLengths) => Err(HeadFault::BothLengths),
         Err(FramingFault::BadCoding) => Err(HeadFault::BadCoding),
@@ -180,15 +196,17 @@ fn request_of(
     requires lines { AreWithin buf.now lines.now }
     requires sound { IsSound method.now target.now version (lines_at buf.now lines.now) }
     requires host { head.now.host.now ≡ host_in target.now (lines_at buf.now lines.now) }
+    requires path { head.now.path.now ≡ path_of target.now }
+    requires query { option_map (λ q. q.now) head.now.query ≡ query_of target.now }
+    requires options { HoldOptions buf.now head.now.options.lines.now (option_map (λ o. o.now) head.now.options.only) lines.now }
     requires framing { head.now.framing ≡ framing_by (encodings_of (lines_at buf.now lines.now)) (lengths_of (lines_at buf.now lines.now)) Framing.None }
     ensures { TakesRequest method.now target.now version (lines_at buf.now lines.now) peer result }
 {
-    let raw = path_in(target);
     let mut path = Vec::new(alloc);
-    if path.reserve(raw.len()).is_err() {
+    if path.reserve(head.path.len()).is_err() {
         return Err(RequestRefused::Memory);
     }
-    match normalise(raw, &mut path) {
+    match normalise(head.path, &mut path) {
         Ok(()) => match request_with(alloc, buf, lines, version, method, target, head, peer, path) {
             Ok(request) => Ok(request),
             Err(_) => Err(RequestRefused::Memory),
@@ -212,13 +230,15 @@ fn request_with(
 ) -> Result<Request, Memory>
     requires lines { AreWithin buf.now lines.now }
     requires host { head.now.host.now ≡ host_in target.now (lines_at buf.now lines.now) }
+    requires query { option_map (λ q. q.now) head.now.query ≡ query_of target.now }
+    requires options { HoldOptions buf.now head.now.options.lines.now (option_map (λ o. o.now) head.now.options.only) lines.now }
     requires framing { head.now.framing ≡ framing_by (encodings_of (lines_at buf.now lines.now)) (lengths_of (lines_at buf.now lines.now)) Framing.None }
     requires path { Normalises (path_of target.now) path.items }
     ensures { IfOk result (IsRequestOf method.now target.now version (lines_at buf.now lines.now) peer) }
 {
-    let query = copied(alloc, query_in(target))?;
-    let keep = version == 1 && !is_in_connection(buf, lines, b"close");
-    let lines = backend_lines(alloc, buf, lines, head.host, peer)?;
+    let query = copied(alloc, head.query)?;
+    let keep = may_go_on(buf, lines, &head.options, version);
+    let lines = backend_lines(alloc, buf, lines, &head.options, head.host, peer)?;
     Ok(Request {
         method: Bytes::from_slice(alloc, method)?,
         host: Bytes::from_slice(alloc, head.host)?,
@@ -229,6 +249,14 @@ fn request_with(
         version,
         keep,
     })
+}
+
+// Whether the client's connection may go on.
+fn may_go_on(buf: &[u8], lines: &[HeaderSpan], options: &Options<'_>, version: u8) -> bool
+    requires { HoldOptions buf.now options.now.lines.now (option_map (λ o. o.now) options.now.only) lines.now }
+    ensures { result ≡ keeps version (lines_at buf.now lines.now) }
+{
+    version == 1 && !is_option(buf, lines, options, b"close")
 }
 
 fn copied(alloc: Global, text: Option<&[u8]>) -> Result<Option<Bytes>, Memory>
@@ -245,13 +273,15 @@ fn backend_lines(
     alloc: Global,
     buf: &[u8],
     lines: &[HeaderSpan],
+    options: &Options<'_>,
     host: &[u8],
     peer: Ip,
 ) -> Result<FieldLines, Memory>
-    requires { AreWithin buf.now lines.now }
+    requires lines { AreWithin buf.now lines.now }
+    requires options { HoldOptions buf.now options.now.lines.now (option_map (λ o. o.now) options.now.only) lines.now }
     ensures { IfOk result (λ all. all ≡ lines_for_backend peer host.now (lines_at buf.now lines.now)) }
 {
-    let mut all = client_lines(alloc, buf, lines)?;
+    let mut all = client_lines(alloc, buf, lines, options)?;
     let mut address = Vec::with_capacity(alloc, 16)?;
     push_address(alloc, peer, &mut address)?;
     push_told(&mut all, address.as_slice(), host)?;
@@ -275,20 +305,22 @@ fn push_dotted(a: u8, b: u8, c: u8, d: u8, out: &mut Vec<u8>) -> Result<(), Memo
     ensures { OnOk result (out.new.items ≡ out.old.items ++ dotted_text a b c d) }
 {
     print_decimal(a as u64, out)?;
-    out.extend_from_slice(b".")?;
-    print_decimal(b as u64, out)?;
-    out.extend_from_slice(b".")?;
-    print_decimal(c as u64, out)?;
-    out.extend_from_slice(b".")?;
-    print_decimal(d as u64, out)
+    push_number(b".", b as u64, out)?;
+    push_number(b".", c as u64, out)?;
+    push_number(b".", d as u64, out)
 }
 
 // The client's lines that go on, with room for what is told of the client.
-fn client_lines(alloc: Global, buf: &[u8], lines: &[HeaderSpan]) -> Result<FieldLines, Memory>
-    requires { AreWithin buf.now lines.now }
+fn client_lines(
+    alloc: Global,
+    buf: &[u8],
+    lines: &[HeaderSpan],
+    options: &Options<'_>,
+) -> Result<FieldLines, Memory>
+    requires lines { AreWithin buf.now lines.now }
+    requires options { HoldOptions buf.now options.now.lines.now (option_map (λ o. o.now) options.now.only) lines.now }
     ensures { IfOk result (λ kept. kept ≡ filter (goes_to_backend (lines_at buf.now lines.now)) (lines_at buf.now lines.now)) }
 {
-    let options = option_lines(buf, lines);
     let room = room_of(lines).saturating_add(TOLD_ROOM);
     let mut kept = FieldLines::with_capacity(alloc, lines.len() + TOLD_LINES, room)?;
     for line in lines {
@@ -299,19 +331,18 @@ fn client_lines(alloc: Global, buf: &[u8], lines: &[HeaderSpan]) -> Result<Field
     Ok(kept)
 }
 
-// Whether the line goes to the backend, among `lines`, whose `Connection` lines are all among `options`.
+// Whether the line goes to the backend, among `lines` with these options.
 fn does_go_to_backend(
     buf: &[u8],
     lines: &[HeaderSpan],
-    options: &[HeaderSpan],
+    options: &Options<'_>,
     line: &HeaderSpan,
 ) -> bool
-    requires within { AreWithin buf.now options.now }
-    requires same { HaveSameOptions buf.now options.now lines.now }
+    requires options { HoldOptions buf.now options.now.lines.now (option_map (λ o. o.now) options.now.only) lines.now }
     requires one { IsHeaderWithin (length buf.now) line.now }
     ensures { result ≡ goes_to_backend (lines_at buf.now lines.now) (header_bytes buf.now line.now) }
 {
-    does_go_on(buf, options, line) && !is_replaced_line(buf, line)
+    !is_replaced_line(buf, line) && does_go_on(buf, lines, options, line)
 }
 
 fn is_replaced_line(buf: &[u8], line: &HeaderSpan) -> bool
@@ -328,7 +359,7 @@ fn is_replaced_line(buf: &[u8], line: &HeaderSpan) -> bool
 fn is_of_forwarding(name: &[u8]) -> bool
     ensures { result ≡ is_forwarded name.now }
 {
-    name.len() >= 12 && fold_equal(&name[..12], b"X-Forwarded-")
+    begins_with(name, b"X-Forwarded-")
 }
 
 // Adds what the proxy says of a client with this address.
@@ -339,7 +370,11 @@ fn push_told(lines: &mut FieldLines, address: &[u8], host: &[u8]) -> Result<(), 
     lines.push(b"X-Forwarded-For", address)?;
     lines.push(b"X-Forwarded-Host", host)?;
     lines.push(b"X-Forwarded-Port", port_in(host))?;
-    lines.push(b"X-Forwarded-Proto", b"http")?;
+    lines.push_whole(
+        b"X-Forwarded-Proto: http\r\n",
+        b"X-Forwarded-Proto",
+        b"http",
+    )?;
     lines.push(b"X-Real-Ip", address)?;
     Ok(())
 }

@@ -1,8 +1,8 @@
 //! How messages are spelled, byte for byte (RFC 9112): requests to a backend, replies to a client.
 ghost use Rattle.std.specs.Prelude.{◌≡◌, ◌++◌, OnOk, OnErr, IfOk, codes};
 ghost use Rattle.std.specs.Fmt.{decimal};
-ghost use Rattle.http_wire.specs.Lines.{Keeps, crlf, field_text, fields_text};
-ghost use Rattle.http_wire.specs.Spelling.{target_text, host_text, request_framing, request_line, request_text, reply_framing, close_text, status_line, reply_text};
+ghost use Rattle.http_wire.specs.Lines.{Keeps, crlf, field_text};
+ghost use Rattle.http_wire.specs.Spelling.{target_text, request_framing, request_line, request_text, reply_framing, close_text, status_line, reply_text};
 
 use crate::message::{Reply, Request};
 use body_codec::Framing;
@@ -126,7 +126,7 @@ fn push_target(path: &[u8], query: &Option<Bytes>, out: &mut Vec<u8>) -> Result<
     out.extend_from_slice(path)?;
     match query {
         Some(query) => {
-            out.push(b'?')?;
+            out.extend_from_slice(b"?")?;
             out.extend_from_slice(query.as_slice())
         }
         None => Ok(()),
@@ -138,11 +138,20 @@ fn push_status_line(reply: &Reply, out: &mut Vec<u8>) -> Result<(), Memory>
     ensures ok { OnOk result (out.new.items ≡ out.old.items ++ status_line reply.now) }
     ensures err { OnErr result (Keeps out.old.items out.new.items) }
 {
-    out.extend_from_slice(b"HTTP/1.1 ")?;
-    print_decimal(reply.status as u64, out)?;
-    out.push(b' ')?;
+    push_number(b"HTTP/1.1 ", reply.status as u64, out)?;
+    out.extend_from_slice(b" ")?;
     out.extend_from_slice(reply.reason.as_slice())?;
     out.extend_from_slice(b"\r\n")
+}
+
+/// Appends a text and a number. Where memory runs out the text may stand at the end.
+#[tactic(auto, using(std::proofs::Common::append_assoc))]
+pub(crate) fn push_number(label: &[u8], n: u64, out: &mut Vec<u8>) -> Result<(), Memory>
+    ensures ok { OnOk result (out.new.items ≡ out.old.items ++ label.now ++ decimal n) }
+    ensures err { OnErr result (Keeps out.old.items out.new.items) }
+{
+    out.extend_from_slice(label)?;
+    print_decimal(n, out)
 }
 
 fn push_request_framing(framing: Framing, out: &mut Vec<u8>) -> Result<(), Memory>
@@ -196,8 +205,7 @@ fn push_length(len: u64, out: &mut Vec<u8>) -> Result<(), Memory>
     ensures ok { OnOk result (out.new.items ≡ out.old.items ++ field_text (codes "Content-Length") (decimal len)) }
     ensures err { OnErr result (Keeps out.old.items out.new.items) }
 {
-    out.extend_from_slice(b"Content-Length: ")?;
-    print_decimal(len, out)?;
+    push_number(b"Content-Length: ", len, out)?;
     out.extend_from_slice(b"\r\n")
 }
 

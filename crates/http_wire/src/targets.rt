@@ -1,17 +1,17 @@
 //! What a request's target and its host text say (RFC 9112 section 3.2).
-ghost use Rattle.std.specs.Prelude.{◌≡◌, ℕ, List, ◌≤◌, ◌<◌, ◌∷◌, IfSome, IsTrue, Bool, length, take, drop};
+ghost use Rattle.std.specs.Prelude.{◌≡◌, ◌≤◌, ◌<◌, IfSome, length, take};
 ghost use Rattle.std.specs.List.{list_all, position};
 ghost use Rattle.std.specs.Option.{option_map};
-ghost use Rattle.path_norm.specs.Normal.{IsRooted};
-ghost use Rattle.http_wire.specs.Targets.{is_origin, is_absolute, ends_authority, behind_scheme, before_place, from_place, behind_place, authority_of, path_and_query, is_question, or_slash, path_of, query_of, host_text_of, is_target_byte, is_bad_target, last_digits, has_port, port_of, has_colon, without_port as text_without_port, host_of_rules as rule_host};
+ghost use Rattle.http_wire.specs.Targets.{is_origin, is_absolute, ends_authority, before_place, from_place, path_and_query, is_question, or_slash, path_of, query_of, host_text_of, is_target_byte, is_bad_target, last_digits, port_of, without_port as text_without_port, host_of_rules as rule_host};
 
-use px_base::{fold_equal, without_last_dot};
+use crate::fields::begins_with;
+use px_base::without_last_dot;
 
 /// Whether the target begins with `http://`, without case.
 fn has_scheme(target: &[u8]) -> bool
     ensures { result ≡ is_absolute target.now }
 {
-    target.len() >= 7 && fold_equal(&target[..7], b"http://")
+    begins_with(target, b"http://")
 }
 
 fn is_rooted(target: &[u8]) -> bool
@@ -68,21 +68,22 @@ fn path_with_query(target: &[u8]) -> &[u8]
     }
 }
 
-/// The path, which is a slash where the target has none.
-pub(crate) fn path_in(target: &[u8]) -> &[u8]
-    ensures { result.now ≡ path_of target.now }
+/// The path, which is a slash where the target has none, and what stands behind the first question mark.
+pub(crate) fn path_and_query_in(target: &[u8]) -> (&[u8], Option<&[u8]>)
+    ensures path { result.0.now ≡ path_of target.now }
+    ensures query { option_map (λ q. q.now) result.1 ≡ query_of target.now }
 {
-    let path = before_question(path_with_query(target));
-    if path.is_empty() { b"/" } else { path }
+    let all = path_with_query(target);
+    match question_at(all) {
+        Some(at) => (slash_if_empty(&all[..at]), Some(&all[at + 1..])),
+        None => (slash_if_empty(all), None),
+    }
 }
 
-fn before_question(text: &[u8]) -> &[u8]
-    ensures { result.now ≡ before_place (position is_question text.now) text.now }
+fn slash_if_empty(path: &[u8]) -> &[u8]
+    ensures { result.now ≡ or_slash path.now }
 {
-    match question_at(text) {
-        Some(at) => &text[..at],
-        None => text,
-    }
+    if path.is_empty() { b"/" } else { path }
 }
 
 fn question_at(text: &[u8]) -> Option<usize>
@@ -90,22 +91,6 @@ fn question_at(text: &[u8]) -> Option<usize>
     ensures within { IfSome result (λ at. at < length text.now) }
 {
     text.iter().position(|b| *b == b'?')
-}
-
-/// What stands behind the first question mark.
-pub(crate) fn query_in(target: &[u8]) -> Option<&[u8]>
-    ensures { option_map (λ q. q.now) result ≡ query_of target.now }
-{
-    after_question(path_with_query(target))
-}
-
-fn after_question(text: &[u8]) -> Option<&[u8]>
-    ensures { option_map (λ q. q.now) result ≡ behind_place (position is_question text.now) text.now }
-{
-    match question_at(text) {
-        Some(at) => Some(&text[at + 1..]),
-        None => None,
-    }
 }
 
 /// Whether the proxy doesn't take this target, or this host text with it.
