@@ -1,5 +1,5 @@
 //! The parts of a connection's machine.
-use crate::boxed::{BoxedBack, BoxedRequest};
+use crate::boxed::{BoxedAim, BoxedBack, BoxedRequest};
 use generation::Generation;
 use ip_net::Ip;
 use link_world::{Cause, EndCause};
@@ -45,11 +45,11 @@ pub struct Current {
     pub number: u64,
     pub router: Option<u32>,
     pub status: u16,
-    pub cause: Cause,
-    pub aim: Option<Aim>,
-    pub back: Option<BoxedBack>,
     /// The link that was dialled for it.
     pub link: u32,
+    pub cause: Cause,
+    pub aim: Option<BoxedAim>,
+    pub back: Option<BoxedBack>,
 }
 
 /// What a connection waits for.

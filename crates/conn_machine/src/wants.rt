@@ -35,11 +35,15 @@ impl Conn {
                 Stage::Head => Want::Bytes,
                 Stage::Pin => Want::Pin,
                 Stage::Look => match &self.current.aim {
-                    Some(aim) => Want::Look { node: aim.node },
+                    Some(aim) => Want::Look {
+                        node: aim.get().node,
+                    },
                     None => Want::Links,
                 },
                 Stage::Walk => match &self.current.aim {
-                    Some(aim) => Want::Walk { node: aim.node },
+                    Some(aim) => Want::Walk {
+                        node: aim.get().node,
+                    },
                     None => Want::Links,
                 },
                 Stage::Dial => Want::Dial,
