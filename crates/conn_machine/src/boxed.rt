@@ -1,8 +1,9 @@
-//! A request and an exchange, each in a block of its own: a connection that waits for its next request has no room for
-//! either.
+//! A request, where it goes, and its exchange, each in a block of its own: a connection that waits for its next request
+//! has no room for any of them.
 ghost use Rattle.std.specs.Prelude.{◌≡◌, ◌≤◌, ◌+◌, ◌++◌, [], List, ℕ, Bool, true, false, IfOk, length, take, drop};
 ghost use Rattle.back_machine.specs.Exchanges.{Exchanged, IsOpen, broken_by};
 
+use crate::parts::Aim;
 use back_machine::{Back, BackCause, Content};
 use http_wire::Request;
 use px_base::Memory;
@@ -10,7 +11,7 @@ use std::alloc::Global;
 use std::marker::Model;
 
 /// A request.
-#[derive(Debug, Drop)]
+#[derive(Drop)]
 pub struct BoxedRequest {
     request: Box<Request>,
 }
@@ -35,6 +36,35 @@ impl BoxedRequest {
         ensures { result.now ≡ self.now }
     {
         self.request.as_ref()
+    }
+}
+
+/// Where a request goes.
+#[derive(Drop)]
+pub struct BoxedAim {
+    aim: Box<Aim>,
+}
+
+impl Model for BoxedAim {
+    ghost use Rattle.conn_machine.specs.declared.parts.Aim.{Aim as AimView};
+
+    ghost Value = { AimView };
+
+    ghost view = { λ b. b.aim.value };
+}
+
+impl BoxedAim {
+    pub fn new(alloc: Global, aim: Aim) -> Result<BoxedAim, Memory>
+        ensures { IfOk result (λ b. b ≡ aim) }
+    {
+        let aim = Box::new(alloc, aim)?;
+        Ok(BoxedAim { aim })
+    }
+
+    pub fn get(&self) -> &Aim
+        ensures { result.now ≡ self.now }
+    {
+        self.aim.as_ref()
     }
 }
 

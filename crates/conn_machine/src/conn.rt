@@ -19,7 +19,6 @@ use std::alloc::Global;
 pub struct Conn {
     pub client: Client,
     pub input: Vec<u8>,
-    pub over: bool,
     pub current: Current,
     pub looks: Vec<Look>,
     pub picks: Vec<NodePick>,
@@ -27,8 +26,9 @@ pub struct Conn {
     pub out: Vec<u8>,
     pub sent: usize,
     pub notes: Vec<Note>,
-    pub stage: Stage,
     pub phase: Phase,
+    pub stage: Stage,
+    pub over: bool,
 }
 
 impl Conn {
@@ -45,7 +45,6 @@ impl Conn {
         Ok(Conn {
             client: Client { link, entry, peer },
             input: Vec::new(alloc),
-            over: false,
             current: Current {
                 asked: Asked::Nothing,
                 size: 0,
@@ -55,10 +54,10 @@ impl Conn {
                 number: 0,
                 router: None,
                 status: 0,
+                link: 0,
                 cause: Cause::Undecided,
                 aim: None,
                 back: None,
-                link: 0,
             },
             looks: Vec::new(alloc),
             picks: Vec::new(alloc),
@@ -66,8 +65,9 @@ impl Conn {
             out: Vec::new(alloc),
             sent: 0,
             notes: Vec::new(alloc),
-            stage: Stage::Head,
             phase: Phase::Open,
+            stage: Stage::Head,
+            over: false,
         })
     }
 

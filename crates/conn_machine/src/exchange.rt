@@ -101,6 +101,7 @@ fn exchange_for(alloc: Global, current: &Current) -> Result<BoxedBack, Memory>
     match &current.asked {
         Asked::Request(request) => match &current.aim {
             Some(aim) => {
+                let aim = aim.get();
                 let back = Back::new(alloc, request.get(), &aim.server, aim.pass_host)?;
                 Ok(BoxedBack::new(alloc, back)?)
             }

@@ -19,7 +19,7 @@ mod tests;
 mod walks;
 mod wants;
 
-pub use boxed::{BoxedBack, BoxedRequest};
+pub use boxed::{BoxedAim, BoxedBack, BoxedRequest};
 pub use conn::Conn;
 pub use event::{BackEvent, BackShape, ConnEvent, EventKind, EventShape, StateName};
 pub use parts::{Aim, Asked, Client, Current, Phase, Stage};

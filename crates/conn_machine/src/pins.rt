@@ -10,6 +10,7 @@ ghost use Rattle.conn_machine.specs.Parts.{end_by, refused_status, FindsRow, IsR
 ghost use Rattle.conn_machine.specs.Prompt.{IsPrompt};
 ghost use Rattle.conn_machine.specs.Reached.{Reached, HasMemory, IsOpen, IsGoing, Waits, KeepsServer};
 
+use crate::boxed::BoxedAim;
 use crate::conn::Conn;
 use crate::heads::USUAL_LINES;
 use crate::own::own_text;
@@ -24,7 +25,7 @@ use std::alloc::{AllocError, Global};
 use std::sync::Arc;
 
 /// What is made of a request before a server is looked for.
-#[derive(Debug, Drop)]
+#[derive(Drop)]
 pub enum Routed {
     Unknown,
     /// It is refused for this cause.
@@ -32,7 +33,7 @@ pub enum Routed {
     /// No router wins it.
     Lost,
     /// The router in this row wins it, and leads there.
-    Won(u32, Aim),
+    Won(u32, BoxedAim),
 }
 
 impl Conn {
@@ -234,19 +235,21 @@ fn query_of(request: &Request) -> &[u8]
     }
 }
 
-fn aim_at(alloc: Global, target: &Target) -> Result<Aim, Memory>
+fn aim_at(alloc: Global, target: &Target) -> Result<BoxedAim, Memory>
     ensures { IfOk result (λ a. IsAim a (aim_of target.now)) }
 {
     let host = Bytes::from_slice(alloc, target.host.as_slice())?;
-    Ok(Aim {
+    let server = Server {
+        host,
+        port: target.port,
+        weight: 1,
+    };
+    let aim = Aim {
         node: target.node,
-        server: Server {
-            host,
-            port: target.port,
-            weight: 1,
-        },
+        server,
         pass_host: target.pass_host,
-    })
+    };
+    BoxedAim::new(alloc, aim)
 }
 
 /// Why the connection ends after the reply to the current request.

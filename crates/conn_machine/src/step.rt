@@ -146,7 +146,7 @@ impl Conn {
         ensures { IsTrue result ↔ WantsNode self.now node }
     {
         match &self.current.aim {
-            Some(aim) => node == aim.node,
+            Some(aim) => node == aim.get().node,
             None => true,
         }
     }

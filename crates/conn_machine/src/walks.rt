@@ -5,6 +5,7 @@ ghost use Rattle.conversation.specs.Steps.{Step, looked, drew, spent};
 ghost use Rattle.conn_machine.specs.Prompt.{IsPrompt};
 ghost use Rattle.conn_machine.specs.Reached.{Reached, IsGoing, Waits, KeepsServer, WaitsIn, WantsNode};
 
+use crate::boxed::BoxedAim;
 use crate::conn::Conn;
 use crate::own::own_text;
 use crate::parts::{Aim, Phase, Stage};
@@ -19,7 +20,7 @@ impl Conn {
         ensures aim { option_copied result ≡ self.now.current.aim }
         ensures wants { IfSome result (λ a. WantsNode self.now a.now.node) }
     {
-        self.current.aim.as_ref()
+        self.current.aim.as_ref().map(BoxedAim::get)
     }
 
     /// Which servers of the balancer are up. Where none is, the request is answered.

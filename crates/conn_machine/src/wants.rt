@@ -5,7 +5,7 @@ use crate::conn::Conn;
 use crate::parts::{Phase, Stage};
 
 /// What a connection waits for.
-#[derive(Clone, Copy, Debug, PartialEq, Eq)]
+#[derive(Clone, Copy)]
 pub enum Want {
     /// Bytes of the client.
     Bytes,
@@ -35,11 +35,15 @@ impl Conn {
                 Stage::Head => Want::Bytes,
                 Stage::Pin => Want::Pin,
                 Stage::Look => match &self.current.aim {
-                    Some(aim) => Want::Look { node: aim.node },
+                    Some(aim) => Want::Look {
+                        node: aim.get().node,
+                    },
                     None => Want::Links,
                 },
                 Stage::Walk => match &self.current.aim {
-                    Some(aim) => Want::Walk { node: aim.node },
+                    Some(aim) => Want::Walk {
+                        node: aim.get().node,
+                    },
                     None => Want::Links,
                 },
                 Stage::Dial => Want::Dial,
