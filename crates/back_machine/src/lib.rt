@@ -7,8 +7,6 @@ mod content;
 mod laws;
 mod reading;
 mod state;
-#[cfg(test)]
-mod tests;
 
 pub use back::Back;
 pub use content::Content;

@@ -5,6 +5,8 @@
 #![tactic(auto)]
 
 #[cfg(test)]
+mod offline;
+#[cfg(test)]
 mod replays;
 #[cfg(test)]
 mod routes;

@@ -14,8 +14,6 @@ mod pins;
 mod relay;
 mod replies;
 mod step;
-#[cfg(test)]
-mod tests;
 mod walks;
 mod wants;
 

@@ -8,8 +8,6 @@ mod laws;
 mod links;
 mod server;
 mod service;
-#[cfg(test)]
-mod tests;
 mod turn;
 
 pub use laws::{

@@ -23,8 +23,6 @@ mod rows;
 mod schema;
 mod service;
 mod tables;
-#[cfg(test)]
-mod tests;
 mod walk;
 
 pub use config::Config;

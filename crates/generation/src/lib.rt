@@ -6,8 +6,6 @@ mod generation;
 mod law;
 mod nodes;
 mod sample;
-#[cfg(test)]
-mod tests;
 
 pub use building::{Built, build_generation};
 pub use generation::Generation;

@@ -35,11 +35,7 @@ fn merged_of(alloc: Global, router: RouterDef, service: ServiceDef) -> Result<Me
     merged_with(alloc, router, app)
 }
 
-fn merged_with(
-    alloc: Global,
-    router: RouterDef,
-    app: Entry<ServiceDef>,
-) -> Result<Merged, Memory>
+fn merged_with(alloc: Global, router: RouterDef, app: Entry<ServiceDef>) -> Result<Merged, Memory>
     requires app { is_qualified app ≡ true }
     requires service { is_service app.def ≡ true }
 {
@@ -59,11 +55,7 @@ fn entry_of<D: Drop>(alloc: Global, name: &[u8], def: D) -> Result<Entry<D>, Mem
     })
 }
 
-fn joined(
-    alloc: Global,
-    web: Entry<RouterDef>,
-    app: Entry<ServiceDef>,
-) -> Result<Merged, Memory>
+fn joined(alloc: Global, web: Entry<RouterDef>, app: Entry<ServiceDef>) -> Result<Merged, Memory>
     requires web { is_qualified web ≡ true }
     requires app { is_qualified app ≡ true }
     requires service { is_service app.def ≡ true }

@@ -10,8 +10,6 @@ mod replies;
 mod requests;
 mod spell;
 mod targets;
-#[cfg(test)]
-mod tests;
 
 pub use lines::FieldLines;
 pub use message::{Reply, Request};

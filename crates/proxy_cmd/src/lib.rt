@@ -2,8 +2,6 @@
 #![tactic(auto)]
 
 mod commands;
-#[cfg(test)]
-mod tests;
 mod usage;
 
 pub use commands::offline;

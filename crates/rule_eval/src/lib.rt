@@ -16,8 +16,6 @@ mod pattern;
 mod probe;
 mod regex_shop;
 mod shop;
-#[cfg(test)]
-mod tests;
 
 pub use building::PatternFault;
 pub use compiled::{Compiled, holds};

@@ -5,8 +5,6 @@ mod begin;
 mod loading;
 mod reading;
 mod serving;
-#[cfg(test)]
-mod tests;
 mod text;
 mod top;
 

@@ -4,8 +4,6 @@
 mod keys;
 mod laws;
 mod rounds;
-#[cfg(test)]
-mod tests;
 mod worker;
 
 pub use laws::{attends_after_publications, attends_after_waits};

@@ -1,11 +1,11 @@
 //! Rules over requests, the shops' refusals, and why a rule isn't compiled.
-use crate::{
-    CompileFault, Compiled, MemoryShop, Pattern, PatternFault, PatternShop, RegexShop, compile,
-    holds, patterns,
-};
 use head_view::{EMPTY_HEADER_SPAN, Scan, scan_request, view};
 use ip_net::Ip;
 use px_base::Bytes;
+use rule_eval::{
+    CompileFault, Compiled, MemoryShop, Pattern, PatternFault, PatternShop, RegexShop, compile,
+    holds, patterns,
+};
 use rule_lang::{Leaf, Matcher, Rule};
 use sqlite_items::Boxed;
 use std::alloc::Global;

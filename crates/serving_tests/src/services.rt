@@ -3,8 +3,8 @@ ghost use Rattle.std.specs.Prelude.{List, IfOk};
 ghost use Rattle.conversation.specs.Plans.{Plan};
 ghost use Rattle.conn_service.specs.Moments.{IsReady, IsTracked};
 
-use crate::{quit, stop};
 use conn_machine::Conn;
+use conn_service::{quit, stop};
 use ip_net::Ip;
 use link_world::{Arrival, World};
 use memory_world::{Given, MemoryWorld};

@@ -1,6 +1,6 @@
 //! Which router a request goes to, and where it leads. Few functions own a generation, and each with one way out: what it drops
 //! is proved at each.
-use crate::{Generation, one_router};
+use generation::{Generation, one_router};
 use head_view::{EMPTY_HEADER_SPAN, Scan, scan_request, view};
 use ip_net::Ip;
 use std::alloc::Global;

@@ -1,5 +1,5 @@
 //! Exchanges: replies in one piece and byte by byte, and what breaks them.
-use crate::{Back, BackCause, BackState};
+use back_machine::{Back, BackCause, BackState};
 use body_codec::Framing;
 use http_wire::{FieldLines, Request};
 use px_base::{Bytes, Server};

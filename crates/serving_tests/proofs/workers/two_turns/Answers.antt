@@ -1,7 +1,7 @@
 use Rattle.desk.specs.Kept.{desk_of}
 use Rattle.worker_loop.proofs.Servings.{runs_none, runs_attends, attends_grew}
 use Rattle.worker_loop.proofs.Comings.{step_wait}
-use Rattle.worker_loop.proofs.tests.two_turns.Goals as goal
+use Rattle.serving_tests.proofs.workers.two_turns.Goals as goal
 
 pub turn-requires : goal.turn-requires
 turn-requires g c = runs_attends (step_wait c.in-Ok.ensures.seen (runs_none _ _ _ c.requires))

@@ -1,6 +1,6 @@
 use Rattle.link_world.specs.Log.{came}
 use Rattle.conn_service.proofs.Wents.{ready_new, tracked_new}
-use Rattle.conn_service.proofs.tests.arrive.Goals as goal
+use Rattle.serving_tests.proofs.services.arrive.Goals as goal
 
 pub returns-in_ok-conn-in-Some-clause-ready : goal.returns-in_ok-conn-in-Some-clause-ready
 returns-in_ok-conn-in-Some-clause-ready g c = λ generations.

@@ -1,5 +1,5 @@
 use Rattle.std.proofs.Common.{[]}
-use Rattle.conn_service.proofs.tests.send_away.Goals as goal
+use Rattle.serving_tests.proofs.services.send_away.Goals as goal
 
 pub stop-requires-clause-linked : goal.stop-requires-clause-linked
 stop-requires-clause-linked g c = (c.in_ok-first.ensures.ready []).linked

@@ -2,13 +2,13 @@
 ghost use Rattle.std.specs.Prelude.{IsTrue};
 ghost use Rattle.http_wire.specs.Own.{is_own_error};
 
-use crate::{
+use body_codec::Framing;
+use head_view::{EMPTY_HEADER_SPAN, ReplyScan, Scan, scan_reply, scan_request};
+use http_wire::{
     FieldLines, HeadFault, Reply, ReplyFault, ReplyRefused, Request, RequestRefused,
     is_interim_status, own_content, own_reply, spell_reply, spell_request, take_reply,
     take_request,
 };
-use body_codec::Framing;
-use head_view::{EMPTY_HEADER_SPAN, ReplyScan, Scan, scan_reply, scan_request};
 use ip_net::Ip;
 use px_base::Bytes;
 use std::alloc::Global;

@@ -1,5 +1,5 @@
 //! Whole commands over memory, with ample memory: a body that always wants more would be proved, and is refused here.
-use crate::offline;
+use proxy_cmd::offline;
 use px_base::{MemorySink, MemorySource};
 use rule_eval::RegexShop;
 use std::alloc::Global;

@@ -1,6 +1,6 @@
 //! Small trees against the schema.
 
-use crate::{ConfigFault, Style, decode, refer};
+use dyn_config::{ConfigFault, Style, decode, refer};
 use field_tree::{Fields, Tree};
 use px_base::{Bytes, Memory};
 use std::alloc::Global;

@@ -1,11 +1,11 @@
 //! Serving over memory.
-use crate::{ServeEnd, serve};
 use ip_net::Ip;
 use link_world::{Arrival, PollPlan, ServePlan};
 use memory_world::{Given, MemoryWorld};
 use publisher::MemoryFiles;
 use px_base::{Bytes, List, Memory, MemorySink};
 use rule_eval::RegexShop;
+use serve_cmd::{ServeEnd, serve};
 use std::alloc::Global;
 use std::process::Abort;
 use std::sync::Wait;

@@ -5,7 +5,6 @@ ghost use Rattle.desk.specs.Issues.{issue_plan};
 ghost use Rattle.desk.specs.Kept.{desk_of};
 ghost use Rattle.worker_loop.specs.Runs.{Attends};
 
-use crate::{Worker, WorkerEnd, run_worker};
 use desk::OneDesk;
 use generation::{Generation, one_router};
 use ip_net::Ip;
@@ -16,6 +15,7 @@ use std::alloc::{AllocError, Global};
 use std::process::Abort;
 use std::sync::{Arc, Wait};
 use std::test::Fail;
+use worker_loop::{Worker, WorkerEnd, run_worker};
 
 const REQUEST: &str = "GET / HTTP/1.1\r\nHost: a.test\r\n\r\n";
 

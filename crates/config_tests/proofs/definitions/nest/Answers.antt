@@ -1,5 +1,5 @@
 use Rattle.std.specs.List.Sorted.{IsStrictlySortedBy}
-use Rattle.dyn_config.proofs.tests.nest.Goals as goal
+use Rattle.config_tests.proofs.definitions.nest.Goals as goal
 
 pub push-requires : goal.push-requires
 unfolding IsStrictlySortedBy

@@ -1,5 +1,5 @@
 //! Connections, as lists of events.
-use crate::{BackEvent, Conn, ConnEvent};
+use conn_machine::{BackEvent, Conn, ConnEvent};
 use generation::{Generation, one_router};
 use ip_net::Ip;
 use link_world::{Look, NodePick, Note, note_text};
