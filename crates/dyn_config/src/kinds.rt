@@ -26,8 +26,7 @@ pub(crate) fn read_service(alloc: Global, style: Style, tree: &Tree) -> Result<S
             if fields.len() == 0 {
                 return Ok(ServiceDef::Unsupported);
             }
-            let service = service_by(alloc, style, fields.key(0), fields.value(0))?;
-            Ok(service)
+            service_by(alloc, style, fields.key(0), fields.value(0))
         }
     }
 }
@@ -67,8 +66,7 @@ pub(crate) fn read_middleware(
             if fields.len() == 0 {
                 return Ok(MiddlewareDef::Unsupported);
             }
-            let middleware = middleware_by(alloc, style, fields.key(0), fields.value(0))?;
-            Ok(middleware)
+            middleware_by(alloc, style, fields.key(0), fields.value(0))
         }
     }
 }
@@ -109,8 +107,7 @@ fn read_rewrite(
         return Ok(MiddlewareDef::ReplacePath { path });
     }
     if fold_equal(b"replacePathRegex", kind) {
-        let middleware = read_replace_path_regex(alloc, tree)?;
-        return Ok(middleware);
+        return read_replace_path_regex(alloc, tree);
     }
     read_lines(alloc, style, kind, tree)
 }
@@ -132,12 +129,10 @@ fn read_lines(
     ensures { IfOk result (λ middleware. middleware ≡ lines_by style kind.now tree.now) }
 {
     if fold_equal(b"headers", kind) {
-        let middleware = read_headers(alloc, tree)?;
-        return Ok(middleware);
+        return read_headers(alloc, tree);
     }
     if fold_equal(b"ipAllowList", kind) {
-        let middleware = read_ip_allow_list(alloc, style, tree)?;
-        return Ok(middleware);
+        return read_ip_allow_list(alloc, style, tree);
     }
     read_other(alloc, style, kind, tree)
 }
@@ -204,12 +199,10 @@ fn read_redirect(
     ensures { IfOk result (λ middleware. middleware ≡ redirect_by style kind.now tree.now) }
 {
     if fold_equal(b"redirectScheme", kind) {
-        let middleware = read_redirect_scheme(alloc, style, tree)?;
-        return Ok(middleware);
+        return read_redirect_scheme(alloc, style, tree);
     }
     if fold_equal(b"redirectRegex", kind) {
-        let middleware = read_redirect_regex(alloc, style, tree)?;
-        return Ok(middleware);
+        return read_redirect_regex(alloc, style, tree);
     }
     Ok(MiddlewareDef::Unsupported)
 }

@@ -123,8 +123,7 @@ fn push_line(
     }
     let name = Bytes::from_slice(alloc, name)?;
     let value = Bytes::from_slice(alloc, value)?;
-    lines.push((name, value))?;
-    Ok(())
+    lines.push((name, value))
 }
 
 fn is_line(name: &[u8], value: &[u8]) -> bool
@@ -151,8 +150,7 @@ fn in_table<'a>(alloc: Global, tree: &'a Tree) -> Result<Vec<&'a Tree>, Memory>
         None => Ok(Vec::new(alloc)),
         Some(fields) => {
             let entries = by_number(alloc, fields)?;
-            let values = values_at(alloc, entries.as_slice())?;
-            Ok(values)
+            values_at(alloc, entries.as_slice())
         }
     }
 }
@@ -161,8 +159,7 @@ fn in_table<'a>(alloc: Global, tree: &'a Tree) -> Result<Vec<&'a Tree>, Memory>
 fn by_number<'a>(alloc: Global, fields: &'a Fields<Tree>) -> Result<Vec<EntryRef<'a>>, Memory>
     ensures { IfOk result (λ entries. map entry_view entries.items ≡ by_number fields.now) }
 {
-    let entries = in_order(alloc, Order::Number, fields)?;
-    Ok(entries)
+    in_order(alloc, Order::Number, fields)
 }
 
 fn values_at<'a>(alloc: Global, entries: &[EntryRef<'a>]) -> Result<Vec<&'a Tree>, Memory>

@@ -41,12 +41,7 @@ pub(crate) fn check(
         Shape::Number(range) => Ok(number_fault(alloc, style, range, tree)),
         Shape::Texts => check_list(alloc, style, Shape::Text(TextRange::Whatever), tree),
         Shape::Tables(table) => check_list(alloc, style, Shape::Options(table), tree),
-        Shape::AnyTable => check_entries(alloc, style, Shape::AnyTable, tree),
-        Shape::Lines => check_entries(alloc, style, Shape::Lines, tree),
-        Shape::Options(table) => check_entries(alloc, style, Shape::Options(table), tree),
-        Shape::Open(table) => check_entries(alloc, style, Shape::Open(table), tree),
-        Shape::Names(declared) => check_entries(alloc, style, Shape::Names(declared), tree),
-        Shape::Kinds(family) => check_entries(alloc, style, Shape::Kinds(family), tree),
+        _ => check_entries(alloc, style, shape, tree),
     }
 }
 
@@ -93,14 +88,7 @@ fn check_fields(
         }
         Shape::Names(declared) => check_names(alloc, style, declared, fields),
         Shape::Kinds(family) => check_kinds(alloc, style, family, fields),
-        Shape::Anything => Ok(None),
-        Shape::AnyTable => Ok(None),
-        Shape::Flag => Ok(None),
-        Shape::Time => Ok(None),
-        Shape::Text(_) => Ok(None),
-        Shape::Number(_) => Ok(None),
-        Shape::Texts => Ok(None),
-        Shape::Tables(_) => Ok(None),
+        _ => Ok(None),
     }
 }
 
@@ -159,8 +147,7 @@ fn check_row(
         Some(second) => {
             let two = fields.key(second);
             let twice = here(alloc, Cause::Twice);
-            let both = note(alloc, Order::Walk, first, two, twice)?;
-            Ok(both)
+            note(alloc, Order::Walk, first, two, twice)
         }
         None => Ok(first),
     }

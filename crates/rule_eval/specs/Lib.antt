@@ -7,3 +7,4 @@ pub mod Faults
 pub mod Shops
 pub mod Checks
 pub mod Rules
+pub mod Words

@@ -3,7 +3,7 @@ use crate::probe::Probe;
 use sqlite_items::Boxed;
 
 // Which operand is asked first. It changes no answer, only what the answer costs.
-#[derive(Clone, Copy, Debug, PartialEq, Eq)]
+#[derive(Clone, Copy)]
 pub(crate) enum Order {
     LeftFirst,
     RightFirst,

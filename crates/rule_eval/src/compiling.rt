@@ -2,7 +2,8 @@
 ghost use Rattle.std.specs.Prelude.{◌≡◌, ◌+◌, ◌-◌, ◌^◌, ◌≤◌, ℕ, List, ◌++◌, min, length, true, IfOk, OnOk, IfErr, MatchResult};
 ghost use Rattle.std.specs.Str.{str_to_ascii_uppercase};
 ghost use Rattle.rule_lang.specs.Trees.{tree_of, call};
-ghost use Rattle.rule_eval.specs.Calls.{Call, calls_of, has_pattern};
+ghost use Rattle.rule_eval.specs.Calls.{Call, calls_of, has_pattern as has_pattern_by};
+ghost use Rattle.rule_eval.specs.Words.{has_words};
 ghost use Rattle.rule_eval.specs.Checks.{probe_call, rule_of};
 ghost use Rattle.rule_eval.specs.Rules.{compiled_rule};
 ghost use Rattle.rule_eval.specs.Patterns.{IsPatternText};
@@ -12,6 +13,7 @@ ghost use Rattle.rule_eval.specs.Views.{pattern_text};
 use crate::building::PatternFault;
 use crate::check::{Check, Order};
 use crate::compiled::{Compiled, is_plain};
+use crate::counting::has_pattern;
 use crate::method::UpperMethod;
 use crate::network::Network;
 use crate::pattern::Pattern;
@@ -122,18 +124,41 @@ fn compile_call<S: PatternShop>(
     ensures fault { IfErr result (Blames (call_of leaf.now) at (S.refusals shop.old) (S.refusals shop.new)) }
     ensures later { S.refusals shop.old ≤ S.refusals shop.new }
 {
+    if has_pattern(leaf.matcher) {
+        let search = search_of(alloc, leaf, at, shop)?;
+        return Ok(search_probe(leaf.matcher, search));
+    }
     match leaf.matcher {
-        Matcher::Header => Ok(Probe::Header(words_of(alloc, leaf)?)),
-        Matcher::HeaderRegexp => Ok(Probe::HeaderRegexp(search_of(alloc, leaf, at, shop)?)),
-        Matcher::Host => Ok(Probe::Host(words_of(alloc, leaf)?)),
-        Matcher::HostRegexp => Ok(Probe::HostRegexp(search_of(alloc, leaf, at, shop)?)),
         Matcher::Method => Ok(Probe::Method(method_of(alloc, leaf)?)),
-        Matcher::Path => Ok(Probe::Path(words_of(alloc, leaf)?)),
-        Matcher::PathPrefix => Ok(Probe::PathPrefix(words_of(alloc, leaf)?)),
-        Matcher::PathRegexp => Ok(Probe::PathRegexp(search_of(alloc, leaf, at, shop)?)),
-        Matcher::Query => Ok(Probe::Query(words_of(alloc, leaf)?)),
-        Matcher::QueryRegexp => Ok(Probe::QueryRegexp(search_of(alloc, leaf, at, shop)?)),
         Matcher::ClientIp => Ok(Probe::ClientIp(network_of(alloc, leaf, at)?)),
+        _ => Ok(words_probe(leaf.matcher, words_of(alloc, leaf)?)),
+    }
+}
+
+// The call of a matcher with a pattern.
+fn search_probe(matcher: Matcher, search: Search) -> Probe
+    requires { has_pattern_by matcher ≡ true }
+    ensures { probe_call result ≡ call matcher search.key (pattern_text search.pattern) }
+{
+    match matcher {
+        Matcher::HeaderRegexp => Probe::HeaderRegexp(search),
+        Matcher::HostRegexp => Probe::HostRegexp(search),
+        Matcher::PathRegexp => Probe::PathRegexp(search),
+        _ => Probe::QueryRegexp(search),
+    }
+}
+
+// The call of a matcher that takes its words as they are.
+fn words_probe(matcher: Matcher, words: Words) -> Probe
+    requires { has_words matcher ≡ true }
+    ensures { probe_call result ≡ call matcher words.key words.value }
+{
+    match matcher {
+        Matcher::Header => Probe::Header(words),
+        Matcher::Host => Probe::Host(words),
+        Matcher::Path => Probe::Path(words),
+        Matcher::PathPrefix => Probe::PathPrefix(words),
+        _ => Probe::Query(words),
     }
 }
 
@@ -183,7 +208,7 @@ fn search_of<S: PatternShop>(
     at: u32,
     shop: &mut S,
 ) -> Result<Search, CompileFault>
-    requires { has_pattern leaf.now.matcher ≡ true }
+    requires { has_pattern_by leaf.now.matcher ≡ true }
     ensures search { IfOk result (λ s. (s.key ≡ leaf.now.key) × (pattern_text s.pattern ≡ leaf.now.value)) }
     ensures sound { OnOk result (IsSound (call_of leaf.now)) }
     ensures fault { IfErr result (Blames (call_of leaf.now) at (S.refusals shop.old) (S.refusals shop.new)) }
