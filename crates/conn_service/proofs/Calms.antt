@@ -1,5 +1,5 @@
 -- When a connection rests, and what keeps it at rest.
-use Rattle.std.proofs.Common.{◌≡◌, ◌≢◌, ◌⊎◌, ℕ, ◌+◌, ◌<◌, ◌≤◌, List, [], length, refl, sym, ◌∙◌, ap, subst, inl, inr, arith, true, false, Bool}
+use Rattle.std.proofs.Common.{◌≡◌, ◌≢◌, ◌⊎◌, ℕ, ◌≤◌, List, [], length, refl, sym, ◌∙◌, ap, subst, inl, inr, arith, true}
 use Rattle.link_world.specs.Lately.{Lately, OnlyAt, SameAt}
 use Rattle.conn_machine.specs.Prompt.{IsPrompt}
 use Rattle.std.specs.Prelude.{Result, Ok, Err, OnOk, Vec}
@@ -10,13 +10,12 @@ use Rattle.conversation.specs.Plans.{Plan}
 use Rattle.conn_machine.specs.Reached.{IsOpen, IsEnding, IsFinished, IsTold, pending_of, pending_to, back_pending_of}
 use Rattle.conn_machine.specs.declared.parts.Client.{Client}
 use Rattle.conn_machine.specs.declared.parts.Current.{Current}
-use Rattle.conn_machine.specs.declared.parts.Stage.{Stage}
 use Rattle.conn_machine.specs.declared.parts.Stage.TheVariants as stage
 use Rattle.conn_machine.specs.declared.conn.Conn.{Conn}
 use Rattle.conn_service.specs.Moments.{IsExchanging, IsReady, Linked}
 use Rattle.conn_service.specs.Pins.{IsBelow}
-use Rattle.conn_service.specs.Calm.{IsRead, ReadDone, ServerDone, IsStanding, Rests, Calm}
-use Rattle.conn_service.specs.Counts.{Counted, SameWork, Stays}
+use Rattle.conn_service.specs.Calm.{IsRead, ReadDone, IsStanding, Rests, Calm}
+use Rattle.conn_service.specs.Counts.{Counted, Stays}
 use Rattle.conn_service.specs.declared.turn.Reads.{Reads}
 
 pub read_stays : {l m : Lately} {c d : Conn} {link : ℕ} → Stays l m c d → IsRead l link → IsRead m link

@@ -1,11 +1,11 @@
 -- How often links were read, and what stays where nothing moved.
-use Rattle.std.proofs.Common.{◌≡◌, ◌≢◌, ◌⊎◌, ℕ, ◌+◌, ◌<◌, ◌≤◌, min, nat_eq, length, List, [], ◌∷◌, refl, sym, ◌∙◌, ap, subst, inl, inr, arith, true, false, Bool}
+use Rattle.std.proofs.Common.{◌≡◌, ◌≢◌, ◌⊎◌, ℕ, ◌+◌, ◌<◌, ◌≤◌, min, nat_eq, length, List, [], ◌∷◌, refl, sym, ◌∙◌, subst, inl, inr, arith, true, false, Bool}
 use Rattle.std.specs.Prelude.{Result, Ok, Err, IfOk}
 use Rattle.std.proofs.lemmas.List.{nil_from_length}
 use Rattle.std.proofs.lemmas.Bool.{cases_eq}
 use Rattle.std.proofs.lemmas.Bool.Decides.{nat_tests}
 use Rattle.link_world.specs.Seen.{Seen}
-use Rattle.link_world.specs.Lately.{Lately, OnlyAt, SameAt, ReadLately, WriteLately}
+use Rattle.link_world.specs.Lately.{Lately, ReadLately, WriteLately}
 use Rattle.link_world.specs.declared.world.LinkRead.{LinkRead}
 use Rattle.link_world.specs.declared.world.LinkRead.TheVariants as read
 use Rattle.link_world.specs.declared.world.LinkWrite.{LinkWrite}

@@ -1,5 +1,5 @@
 -- What a shared desk does for one connection, one step after another.
-use Rattle.std.proofs.Common.{suc, zero, ◌≡◌, ◌≢◌, ◌⊎◌, ℕ, ◌+◌, ◌<◌, ◌≤◌, ◌==◌, min, List, [], ◌∷◌, ◌++◌, map, length, length-append, Option, Some, None, refl, sym, ◌∙◌, ap, subst, inl, inr, arith, true, false, Bool}
+use Rattle.std.proofs.Common.{suc, zero, ◌≡◌, ◌≢◌, ◌⊎◌, ℕ, ◌+◌, ◌<◌, ◌≤◌, ◌==◌, min, List, [], ◌∷◌, ◌++◌, map, length, length-append, Option, Some, refl, sym, ◌∙◌, ap, subst, inl, inr, arith, Bool}
 use Rattle.std.specs.Prelude.{Result, Ok, Err, MatchResult, OnOk}
 use Rattle.std.specs.List.{AllByRecursion, Contains, flat_map}
 use Rattle.std.proofs.lemmas.Bool.{cases_eq}
@@ -10,12 +10,12 @@ use Rattle.link_world.specs.Log.{only_if}
 use Rattle.link_world.specs.declared.note.Look.{Look}
 use Rattle.link_world.specs.declared.note.NodePick.{NodePick}
 use Rattle.conversation.specs.Plans.{Plan}
-use Rattle.conversation.specs.Steps.{Step, pinned, looked, drew, spent, pins, pins_by, looks_by, picks_by}
-use Rattle.desk.specs.Desks.{Desk, Seat, Grew, IsLast, Pinned as PinDid, Refused as RefuseDid, Reseated, AttendDid, LookDid, DrawDid, with_look, held, seat_at, IsAttended, IsHeld, pick_of, one_server}
+use Rattle.conversation.specs.Steps.{Step, pinned, looked, pins, pins_by, looks_by, picks_by}
+use Rattle.desk.specs.Desks.{Desk, Seat, Grew, IsLast, Pinned as PinDid, Refused as RefuseDid, Reseated, AttendDid, LookDid, DrawDid, held, seat_at, IsAttended, pick_of, one_server}
 use Rattle.wrr_deadlines.specs.Schedule.{weight_of}
 use Rattle.wrr_deadlines.specs.declared.choice.Drawn.{Drawn}
 use Rattle.conn_service.specs.Choices.{last_number, looks_under, picks_under}
-use Rattle.conn_service.specs.Pins.{IsBelow, counted_on, Mark, kept, refused, mark_plan, kept_by, refused_by, Accounted, DeskWent}
+use Rattle.conn_service.specs.Pins.{IsBelow, counted_on, kept, refused, mark_plan, kept_by, refused_by, Accounted, DeskWent}
 use Rattle.conn_service.proofs.Lists.{same_link, other_link, all_both, only_none, grew_none, grew_twice, grew_all, grew_below, last_number-append, looks-append, picks-append, unpinned, unlooked, unpicked}
 
 pub accounted_none : (f : Desk) → Accounted f f []

@@ -1,15 +1,14 @@
 -- Lists, logs and steps.
-use Rattle.std.proofs.Common.{◌≡◌, ◌≢◌, ◌⊎◌, ℕ, ◌+◌, ◌<◌, ◌≤◌, ◌==◌, List, [], ◌∷◌, ◌++◌, Option, Some, None, refl, sym, ◌∙◌, ap, subst, inl, inr, arith, true, false, Bool}
+use Rattle.std.proofs.Common.{◌≡◌, ◌≢◌, ◌⊎◌, ℕ, ◌≤◌, ◌==◌, List, [], ◌∷◌, ◌++◌, Option, Some, None, refl, sym, ◌∙◌, ap, subst, inl, inr, arith, true, false, Bool}
 use Rattle.std.specs.Prelude.{IfSome}
-use Rattle.std.specs.List.{AllByRecursion, Contains, flat_map}
+use Rattle.std.specs.List.{AllByRecursion, Contains}
 use Rattle.std.proofs.lemmas.List.{append-nil, append_assoc}
 use Rattle.std.proofs.lemmas.List.Concat.{flat_map-append}
 use Rattle.std.proofs.lemmas.List.Elements.{Contains-append_left}
 use Rattle.std.proofs.lemmas.Bool.Decides.{nat_tests}
 use Rattle.link_world.specs.Log.{Event, LinkEvent, is_of, happening, history_of, only_if, notes, note_by, IsFresh}
 use Rattle.conversation.specs.Plans.{Plan}
-use Rattle.conversation.specs.Steps.{Step, history, failures, history_by, failures_by, pins, pins_by, looks_by, picks_by, IsNew}
-use Rattle.link_world.specs.declared.note.Note.{Note}
+use Rattle.conversation.specs.Steps.{Step, history, failures, history_by, failures_by, pins_by, looks_by, picks_by, IsNew}
 use Rattle.link_world.specs.declared.note.Look.{Look}
 use Rattle.link_world.specs.declared.note.NodePick.{NodePick}
 use Rattle.desk.specs.Desks.{Grew}

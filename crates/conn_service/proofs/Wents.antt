@@ -1,12 +1,10 @@
 -- What serving a connection does, one step after another.
-use Rattle.std.proofs.Common.{◌≡◌, ◌≢◌, ◌⊎◌, ⊎_elim, ℕ, ◌+◌, ◌<◌, ◌≤◌, ◌==◌, List, [], ◌∷◌, ◌++◌, Option, Some, None, refl, sym, ◌∙◌, ap, subst, inl, inr, arith, true, false, Bool}
-use Rattle.std.specs.Prelude.{IfSome, Result, Ok, Err, OnErr, OnOk}
-use Rattle.std.specs.List.{flat_map, AllByRecursion, Contains}
+use Rattle.std.proofs.Common.{◌≡◌, ◌≢◌, ◌⊎◌, ⊎_elim, ℕ, ◌≤◌, List, [], ◌∷◌, ◌++◌, Option, Some, None, refl, sym, ◌∙◌, ap, subst, inl, inr, arith, true, false, Bool}
+use Rattle.std.specs.Prelude.{Result, Ok, Err, OnErr}
 use Rattle.std.proofs.lemmas.List.{append-nil, append_assoc}
 use Rattle.std.proofs.lemmas.List.Concat.{flat_map-append}
-use Rattle.std.proofs.lemmas.Bool.{cases_eq}
-use Rattle.link_world.specs.Log.{Event, LinkEvent, on, closed, dialled, noted, note_by, notes, only_if, IsFresh}
-use Rattle.link_world.specs.Seen.{Seen, Rose, with_event, Faulted, Came, Closed, CloseDid}
+use Rattle.link_world.specs.Log.{Event, LinkEvent, on, dialled, noted, note_by, notes, only_if}
+use Rattle.link_world.specs.Seen.{Seen, Rose, with_event, Faulted, Came, CloseDid}
 use Rattle.link_world.specs.Lately.{Lately, OnlyAt}
 use Rattle.link_world.specs.declared.note.Note.{Note}
 use Rattle.desk.specs.Desks.{Desk, Grew}
@@ -25,11 +23,11 @@ use Rattle.conn_machine.specs.declared.parts.Stage.{Stage}
 use Rattle.conn_machine.specs.declared.parts.Stage.TheVariants as stage
 use Rattle.conn_machine.specs.declared.conn.Conn.{Conn}
 use Rattle.conn_service.specs.Moments.{Moment, moment, IsHeld, IsExchanging, Linked, Given, Owns, Stands, IsTracked, IsElse, IsReady}
-use Rattle.conn_service.specs.Pins.{IsBelow, DeskWent}
+use Rattle.conn_service.specs.Pins.{DeskWent}
 use Rattle.conn_service.specs.Arrivals.{is_arrival, arrivals}
-use Rattle.conn_service.specs.Went.{extended, Still, WorldWent, ConnWent, Went, Lost}
+use Rattle.conn_service.specs.Went.{extended, WorldWent, ConnWent, Went, Lost}
 use Rattle.conn_service.specs.Released.{Released, IsServer}
-use Rattle.conn_service.proofs.Lists.{none_in_neither, none_front, none_back, extended_none, new_both, no_steps, not_false, not_before, grew_below}
+use Rattle.conn_service.proofs.Lists.{none_in_neither, extended_none, new_both, no_steps, not_false, not_before, grew_below}
 use Rattle.conn_service.proofs.Worlds.{given_more, given_later, owns_more, world_then, SeenAt, Alone, world_at, seen_same, seen_event, seen_fault, seen_closed, seen_came, alone_event, alone_failed, alone_closed, alone_none, only_none, same_at}
 use Rattle.conn_service.proofs.Desks.{desk_then, desk_none, desk_step}
 

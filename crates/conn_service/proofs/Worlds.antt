@@ -1,21 +1,20 @@
 -- What the world does for one connection, one step after another.
-use Rattle.std.proofs.Common.{◌≡◌, ◌≢◌, ◌⊎◌, ⊎_elim, ℕ, ◌+◌, ◌<◌, ◌≤◌, ◌==◌, min, List, [], ◌∷◌, ◌++◌, Option, Some, None, refl, sym, ◌∙◌, ap, subst, inl, inr, arith, true, false, Bool}
+use Rattle.std.proofs.Common.{◌≡◌, ◌≢◌, ◌⊎◌, ℕ, ◌≤◌, List, [], ◌∷◌, ◌++◌, Option, refl, sym, ◌∙◌, ap, subst, inl, inr, arith, true, false, Bool}
 use Rattle.std.specs.Prelude.{IfSome}
-use Rattle.std.specs.List.{AllByRecursion}
 use Rattle.std.proofs.lemmas.Bool.{cases_eq}
 use Rattle.std.proofs.lemmas.List.{append-nil}
 use Rattle.std.proofs.lemmas.List.Concat.{flat_map-append}
-use Rattle.link_world.specs.Log.{Event, LinkEvent, on, closed, dialled, noted, note_by, is_of, happening, history_of, only_if, notes, IsFresh}
+use Rattle.link_world.specs.Log.{Event, LinkEvent, on, closed, note_by, is_of, history_of, only_if, notes, IsFresh}
 use Rattle.link_world.specs.Seen.{Seen, Rose, with_event, Faulted, Came, Closed}
 use Rattle.link_world.specs.Lately.{Lately, SameAt, OnlyAt}
 use Rattle.desk.specs.Desks.{Desk}
 use Rattle.conversation.specs.Steps.{Step, happened, failed, history, failures, IsNew}
 use Rattle.conn_machine.specs.declared.conn.Conn.{Conn}
 use Rattle.conn_machine.specs.declared.parts.Client.{Client}
-use Rattle.conn_service.specs.Moments.{Moment, moment, IsExchanging, Given, Owns}
+use Rattle.conn_service.specs.Moments.{Moment, moment, Given, Owns}
 use Rattle.conn_service.specs.Arrivals.{arrivals, arrival_by}
 use Rattle.conn_service.specs.Went.{extended, Still, WorldWent}
-use Rattle.conn_service.proofs.Lists.{same_link, other_link, all_both, none_in_neither, extended_twice, extended_none, fresh_before, ran-append, history-append, failures-append, notes-append, no_steps, new_both, not_false, not_before}
+use Rattle.conn_service.proofs.Lists.{same_link, other_link, all_both, none_in_neither, extended_twice, fresh_before, ran-append, history-append, failures-append, notes-append, no_steps, new_both, not_false, not_before}
 
 pub same_at : (link : ℕ) (l : Lately) → SameAt link l l
 same_at link l = record { reads = refl; read_quiet = refl; write_quiet = refl; read_was_quiet = refl; write_was_quiet = refl }

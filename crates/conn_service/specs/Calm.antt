@@ -1,5 +1,5 @@
 -- When nothing more can be done for a connection before the next wait.
-use Rattle.std.specs.Prelude.{◌≡◌, ◌≢◌, ◌⊎◌, ℕ, ◌≤◌, List, [], Bool, true, length}
+use Rattle.std.specs.Prelude.{◌≡◌, ◌≢◌, ◌⊎◌, ℕ, ◌≤◌, [], true, length}
 use Rattle.link_world.specs.Lately.{Lately}
 use Rattle.conn_machine.specs.Prompt.{IsPrompt}
 use Rattle.conn_machine.specs.Reached.{IsOpen, pending_of, back_pending_of}

@@ -1,5 +1,5 @@
 -- A world, a shared desk and one connection at one moment, and which links are the connection's.
-use Rattle.std.specs.Prelude.{◌≡◌, ◌≢◌, ◌⊎◌, ℕ, List, Bool, true, false}
+use Rattle.std.specs.Prelude.{◌≡◌, ◌≢◌, ◌⊎◌, ℕ, List, true, false}
 use Rattle.link_world.specs.Seen.{Seen}
 use Rattle.link_world.specs.Lately.{Lately}
 use Rattle.desk.specs.Desks.{Desk}

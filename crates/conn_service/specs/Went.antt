@@ -1,5 +1,5 @@
 -- What serving one connection does to it, to the world and to a shared desk.
-use Rattle.std.specs.Prelude.{◌≡◌, ◌≢◌, ◌⊎◌, ℕ, ◌≤◌, List, [], ◌∷◌, ◌++◌, Option, IfSome, true, false}
+use Rattle.std.specs.Prelude.{◌≡◌, ◌≢◌, ◌⊎◌, ℕ, ◌≤◌, List, [], ◌++◌, Option, IfSome, true, false}
 use Rattle.std.specs.Option.{option_map}
 use Rattle.link_world.specs.Log.{Event, IsFresh, history_of, notes}
 use Rattle.link_world.specs.Seen.{Seen, Rose}

@@ -1,12 +1,9 @@
-use Rattle.std.proofs.Common.{refl, sym, ◌∙◌, ap, subst, ◌≡◌, ℕ, Option, Some, arith}
+use Rattle.std.proofs.Common.{refl, sym, ◌∙◌, subst}
 use Rattle.conn_machine.specs.declared.parts.Current.{Current}
-use Rattle.conn_machine.specs.declared.parts.Aim.{Aim}
-use Rattle.conn_machine.specs.declared.parts.Stage.TheVariants as stage
-use Rattle.conn_machine.specs.Reached.{Waits}
 use Rattle.desk.specs.Desks.{IsAttended}
 use Rattle.conversation.specs.Steps.{drew, spent}
 use Rattle.conn_service.proofs.Lists.{no_steps}
-use Rattle.conn_service.proofs.Wents.{went_same, went_none, went_then, went_desk, keeps_same, keeps_server, linked_still, idle_at, reached_still, prompt_dial, waits_still, wants_still}
+use Rattle.conn_service.proofs.Wents.{went_same, went_none, went_then, went_desk, keeps_same, linked_still, idle_at, reached_still, prompt_dial, waits_still, wants_still}
 use Rattle.conn_service.proofs.Desks.{desk_drew, desk_undrawn, first_child}
 use Rattle.conn_service.proofs.choose.draw.Goals as goal
 

@@ -1,4 +1,4 @@
-use Rattle.std.proofs.Common.{refl, sym, ◌∙◌, ap, subst, ◌≡◌, ℕ, arith, ◌<◌}
+use Rattle.std.proofs.Common.{refl, sym, ◌∙◌, subst, arith}
 use Rattle.conn_machine.specs.declared.parts.Current.{Current}
 use Rattle.desk.specs.Desks.{IsAttended}
 use Rattle.conn_service.proofs.Wents.{went_same, went_none, went_then, went_desk, keeps_same, linked_still, waits_still, wants_still}

@@ -1,4 +1,4 @@
-use Rattle.std.proofs.Common.{refl, inl, inr, subst, sym, ℕ, ◌∙◌, ◌≡◌, List, length, ◌<◌, true, false, rules}
+use Rattle.std.proofs.Common.{refl, subst, sym, ℕ, ◌∙◌, ◌≡◌, List, length, ◌<◌, true, false, rules}
 use Rattle.conn_service.proofs.Lists.{not_false}
 use Rattle.conn_service.proofs.Wents.{went_same, went_none, went_then, keeps_same, keeps_server, server_then, linked_still}
 use Rattle.conn_service.proofs.Counts.{counted_same, stays_work, stays_then, work_same, if_ok, empty_of, some_of}

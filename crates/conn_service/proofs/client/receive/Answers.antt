@@ -1,7 +1,6 @@
-use Rattle.std.proofs.Common.{refl, inl, inr, subst, ◌≡◌, true}
+use Rattle.std.proofs.Common.{refl, inl, inr, subst}
 use Rattle.link_world.specs.Lately.{ReadLately}
 use Rattle.link_world.specs.declared.world.LinkRead.{LinkRead}
-use Rattle.conn_machine.specs.declared.parts.Client.{Client}
 use Rattle.conn_service.proofs.Wents.{went_same}
 use Rattle.conn_service.proofs.Counts.{counted_client, stays_work, stays_read, work_same, if_ok}
 use Rattle.conn_service.proofs.client.receive.Goals as goal

@@ -1,4 +1,4 @@
-use Rattle.std.proofs.Common.{refl, inl, inr, ℕ, List, ◌≡◌, ◌≤◌, length, arith, true, false, rules, subst}
+use Rattle.std.proofs.Common.{inl, inr, ℕ, List, ◌≡◌, ◌≤◌, length, arith, false, rules, subst}
 use Rattle.conn_service.proofs.Lists.{not_false}
 use Rattle.conn_service.proofs.client.room_for.Goals as goal
 

@@ -1,4 +1,4 @@
-use Rattle.std.proofs.Common.{refl, inl, subst, sym, ℕ, List, length, ◌<◌, ◌≤◌}
+use Rattle.std.proofs.Common.{refl, subst, sym, ℕ, List, length, ◌<◌, ◌≤◌}
 use Rattle.link_world.specs.Log.{took}
 use Rattle.conn_service.proofs.Wents.{went_event, went_fault, went_quiet, of_client, keeps_open, keeps_all, keeps_ending, ending_from, server_from, prompt_ending}
 use Rattle.conn_service.proofs.Counts.{counted_write, stays_write, work_same}

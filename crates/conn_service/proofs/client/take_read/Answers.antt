@@ -1,4 +1,4 @@
-use Rattle.std.proofs.Common.{refl, subst, List, ℕ}
+use Rattle.std.proofs.Common.{refl, subst}
 use Rattle.link_world.specs.Log.{gave, gave_end}
 use Rattle.link_world.specs.Seen.{ReadDid}
 use Rattle.link_world.specs.declared.world.LinkRead.{LinkRead}

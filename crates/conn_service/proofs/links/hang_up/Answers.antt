@@ -1,5 +1,4 @@
-use Rattle.std.proofs.Common.{refl, inl, sym, ◌∙◌}
-use Rattle.std.specs.Prelude.{IsTrue}
+use Rattle.std.proofs.Common.{refl, inl}
 use Rattle.conn_service.proofs.Wents.{went_same, went_close}
 use Rattle.conn_service.proofs.Lists.{not_false}
 use Rattle.conn_service.proofs.links.hang_up.Goals as goal

@@ -1,6 +1,5 @@
-use Rattle.std.proofs.Common.{refl, inl, inr, subst, sym, ap, ◌∙◌, ◌≡◌, ℕ, List, rules, true, false}
+use Rattle.std.proofs.Common.{inr, subst, sym, ap, ◌∙◌, ◌≡◌, ℕ, true}
 use Rattle.link_world.specs.Lately.{Lately}
-use Rattle.link_world.specs.Log.{dialled}
 use Rattle.conn_service.proofs.Lists.{not_false}
 use Rattle.conn_service.proofs.Wents.{went_same, went_none, went_then, went_dial, went_idle, went_released, keeps_same, linked_still, waits_still}
 use Rattle.conn_service.proofs.server.dial.Goals as goal

@@ -1,9 +1,7 @@
-use Rattle.std.proofs.Common.{refl, inl, inr, subst, sym, ap, ◌∙◌, ◌≡◌, ℕ, List, length, ◌<◌, ◌≤◌, true, false, rules, Option, arith}
-use Rattle.link_world.specs.Log.{took, gave, gave_end}
-use Rattle.conn_machine.specs.Reached.{back_pending_of, pending_to}
-use Rattle.conn_machine.specs.declared.parts.Current.{Current}
+use Rattle.std.proofs.Common.{refl, inl, inr, subst, ◌≡◌, ℕ, true, arith}
+use Rattle.link_world.specs.Log.{gave, gave_end}
 use Rattle.conn_service.proofs.Wents.{went_same, went_none, went_then, went_server, went_server_fault, went_quiet, of_server, keeps_open, keeps_same, keeps_server, server_then, keeps_all, linked_still, server_given, serving_still}
-use Rattle.conn_service.proofs.Counts.{counted_same, counted_write, counted_server, stays_work, stays_then, stays_write, stays_read, work_same, if_ok, empty_of, some_of}
+use Rattle.conn_service.proofs.Counts.{counted_same, counted_server, stays_work, stays_then, stays_read, work_same}
 use Rattle.conn_service.proofs.server.hear.Goals as goal
 
 pub returns-in_default-clause-went : goal.returns-in_default-clause-went

@@ -1,4 +1,4 @@
-use Rattle.std.proofs.Common.{rules, refl, inl, inr, true, ◌≡◌}
+use Rattle.std.proofs.Common.{rules, inl, inr}
 use Rattle.conn_service.proofs.Wents.{went_then, not_open}
 use Rattle.conn_service.proofs.Calms.{calm_closed}
 use Rattle.conn_service.proofs.service.attempt.Goals as goal

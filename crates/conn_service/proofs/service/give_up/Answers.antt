@@ -1,4 +1,4 @@
-use Rattle.std.proofs.Common.{refl, subst, ℕ, Option}
+use Rattle.std.proofs.Common.{subst, ℕ, Option}
 use Rattle.conn_service.specs.Released.{IsServer}
 use Rattle.conn_service.proofs.Wents.{went_none, went_let_go, keeps_ending}
 use Rattle.conn_service.proofs.service.give_up.Goals as goal

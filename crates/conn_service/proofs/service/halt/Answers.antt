@@ -1,4 +1,4 @@
-use Rattle.std.proofs.Common.{refl, subst, sym, ℕ, Option}
+use Rattle.std.proofs.Common.{subst, sym, ℕ, Option}
 use Rattle.conn_machine.specs.Reached.{IsEnding}
 use Rattle.conn_service.specs.Released.{IsServer}
 use Rattle.conn_service.proofs.Wents.{went_none, went_stop, went_weaker, went_let_go, keeps_ending}

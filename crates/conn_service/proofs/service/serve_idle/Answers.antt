@@ -1,6 +1,6 @@
-use Rattle.std.proofs.Common.{refl, inr, subst, ◌∙◌}
+use Rattle.std.proofs.Common.{refl, inr, ◌∙◌}
 use Rattle.std.proofs.lemmas.Result.{on_ok_weaker, on_err_weaker}
-use Rattle.conn_service.proofs.Wents.{went_then, went_quiet, lost_then, tracked_then, of_client, keeps_same, linked_still}
+use Rattle.conn_service.proofs.Wents.{went_then, went_quiet, lost_then, tracked_then, of_client, keeps_same}
 use Rattle.conn_service.proofs.Calms.{calm_told, ready_told}
 use Rattle.conn_service.proofs.service.serve_idle.Goals as goal
 

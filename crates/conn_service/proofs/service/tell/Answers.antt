@@ -1,8 +1,8 @@
-use Rattle.std.proofs.Common.{rules, refl, [], ◌∙◌, subst, sym, ◌≡◌}
+use Rattle.std.proofs.Common.{refl, ◌∙◌, subst, sym}
 use Rattle.conn_machine.specs.declared.conn.Conn.{Conn}
 use Rattle.conn_service.specs.Moments.{moment}
 use Rattle.conn_service.specs.Went.{Went}
-use Rattle.conn_service.proofs.Wents.{went_then, went_same, went_note, lost_note, at_err, not_open, keeps_note, still_kept, notes_then, stands_then, told_of, no_desk}
+use Rattle.conn_service.proofs.Wents.{went_then, went_same, went_note, lost_note, at_err, not_open, keeps_note, still_kept, notes_then, stands_then, told_of}
 use Rattle.conn_service.proofs.service.tell.Goals as goal
 
 pub returns-then-is_quiet-clause-went : goal.returns-then-is_quiet-clause-went

@@ -1,7 +1,7 @@
-use Rattle.std.proofs.Common.{List, ℕ, ◌≡◌}
+use Rattle.std.proofs.Common.{◌≡◌}
 use Rattle.desk.specs.Desks.{Desk}
 use Rattle.conn_machine.specs.Reached.{notes_left, IsOpen, IsEnding}
-use Rattle.conn_service.specs.Moments.{moment, IsTracked}
+use Rattle.conn_service.specs.Moments.{moment}
 use Rattle.conn_service.specs.Went.{Went}
 use Rattle.conn_service.proofs.service.tell.Given as goal
 

@@ -1,4 +1,4 @@
-use Rattle.std.proofs.Common.{refl, sym, ◌∙◌, ap, subst, ◌≢◌, ℕ}
+use Rattle.std.proofs.Common.{◌∙◌, ap, ◌≢◌}
 use Rattle.conn_machine.specs.declared.parts.Client.{Client}
 use Rattle.conn_service.proofs.Wents.{went_let_go, no_desk}
 use Rattle.conn_service.proofs.Counts.{if_ok, server_other}

@@ -1,4 +1,4 @@
-use Rattle.std.proofs.Common.{refl, sym, ◌∙◌, subst, rules}
+use Rattle.std.proofs.Common.{sym, ◌∙◌}
 use Rattle.conn_service.proofs.Wents.{went_then, no_desk}
 use Rattle.conn_service.proofs.Calms.{rests_from}
 use Rattle.conn_service.proofs.turn.pass_once.Goals as goal

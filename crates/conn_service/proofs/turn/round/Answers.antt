@@ -1,4 +1,4 @@
-use Rattle.std.proofs.Common.{refl, sym, ◌∙◌, ap, subst, ℕ, ◌≡◌}
+use Rattle.std.proofs.Common.{sym, ◌∙◌, ap, subst}
 use Rattle.conn_machine.specs.declared.parts.Client.{Client}
 use Rattle.conn_service.specs.Calm.{IsStanding}
 use Rattle.conn_service.proofs.Wents.{went_same, went_then}

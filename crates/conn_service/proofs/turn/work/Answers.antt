@@ -1,4 +1,4 @@
-use Rattle.std.proofs.Common.{refl, arith, rules, false, ◌≡◌}
+use Rattle.std.proofs.Common.{rules, false, ◌≡◌}
 use Rattle.conn_service.proofs.Lists.{not_false}
 use Rattle.conn_service.proofs.Wents.{went_same, went_then}
 use Rattle.conn_service.proofs.turn.work.Goals as goal

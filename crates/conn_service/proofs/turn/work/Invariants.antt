@@ -1,4 +1,3 @@
-use Rattle.std.proofs.Common.{◌≡◌, length}
 use Rattle.conn_machine.specs.Prompt.{IsPrompt}
 use Rattle.conn_service.specs.Moments.{moment}
 use Rattle.conn_service.specs.Went.{Went}
