@@ -140,22 +140,27 @@ fn is_true_at(
     Ok(())
 }
 
+fn is_plain(alloc: Global, rule: &Rule) -> Result<bool, Fail> {
+    Ok(compiled(alloc, rule)?.plain())
+}
+
+// The rule is true of `/y` and false of `/x`; whether it is plain, and how many patterns it has.
+fn try_rule(rt: &impl Abort, alloc: Global, rule: &Rule, wanted: (bool, u32)) -> Result<(), Fail> {
+    is_true_at(rt, alloc, rule, b"/y", true)?;
+    is_true_at(rt, alloc, rule, b"/x", false)?;
+    let plain = is_plain(alloc, rule)?;
+    assert_eq!(rt; (plain, patterns(rule)), wanted);
+    Ok(())
+}
+
 fn plain_rules(rt: &impl Abort, alloc: Global) -> Result<(), Fail> {
     let rule = host_but_no_path(alloc)?;
-    is_true_at(rt, alloc, &rule, b"/y", true)?;
-    is_true_at(rt, alloc, &rule, b"/x", false)?;
-    let plain = compiled(alloc, &rule)?.plain();
-    assert!(rt; plain);
-    Ok(())
+    try_rule(rt, alloc, &rule, (true, 0))
 }
 
 fn pattern_rules(rt: &impl Abort, alloc: Global) -> Result<(), Fail> {
     let rule = pattern_or_peer(alloc, "^/y", "10.0.0.0/30")?;
-    is_true_at(rt, alloc, &rule, b"/y", true)?;
-    is_true_at(rt, alloc, &rule, b"/x", false)?;
-    let plain = compiled(alloc, &rule)?.plain();
-    assert_eq!(rt; (plain, patterns(&rule)), (false, 1));
-    Ok(())
+    try_rule(rt, alloc, &rule, (false, 1))
 }
 
 #[test]
@@ -178,6 +183,16 @@ fn fault_of(alloc: Global, rule: &Rule, too_big: &[u64]) -> Result<Option<Compil
     }
 }
 
+// The same of a pattern and a network, where the shop refuses one build.
+fn fault_with(
+    alloc: Global,
+    rule: (&'static str, &'static str),
+    too_big: u64,
+) -> Result<Option<CompileFault>, Fail> {
+    let rule = pattern_or_peer(alloc, rule.0, rule.1)?;
+    fault_of(alloc, &rule, &[too_big])
+}
+
 fn try_fault(
     rt: &impl Abort,
     alloc: Global,
@@ -185,8 +200,7 @@ fn try_fault(
     too_big: u64,
     wanted: Option<CompileFault>,
 ) -> Result<(), Fail> {
-    let rule = pattern_or_peer(alloc, rule.0, rule.1)?;
-    let fault = fault_of(alloc, &rule, &[too_big])?;
+    let fault = fault_with(alloc, rule, too_big)?;
     assert_eq!(rt; fault, wanted);
     Ok(())
 }
