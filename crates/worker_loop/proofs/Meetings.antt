@@ -1,7 +1,7 @@
 -- No client is forgotten.
-use Rattle.std.proofs.Common.{◌≡◌, ◌≢◌, ◌⊎◌, ℕ, List, [], ◌∷◌, ◌++◌, Option, Some, None, refl, sym, ◌∙◌, ap, subst, inl, inr, true, false, Bool}
-use Rattle.std.specs.Prelude.{Result, Ok, Err}
-use Rattle.std.specs.List.{flat_map, AllByRecursion, Contains}
+use Rattle.std.proofs.Common.{◌≡◌, ◌⊎◌, ℕ, List, [], ◌∷◌, ◌++◌, Option, Some, None, refl, sym, ◌∙◌, ap, subst, inl, inr, true}
+use Rattle.std.specs.Prelude.{Ok, Err}
+use Rattle.std.specs.List.{flat_map, Contains}
 use Rattle.std.proofs.lemmas.Bool.{cases_eq}
 use Rattle.std.proofs.lemmas.List.{append-nil}
 use Rattle.std.proofs.lemmas.List.Concat.{flat_map-append}
@@ -27,7 +27,7 @@ use Rattle.conn_machine.proofs.Tells.{unended_untold}
 use Rattle.conn_service.specs.Arrivals.{arrivals, arrival_by}
 use Rattle.conn_service.specs.Moments.{moment}
 use Rattle.conn_service.specs.Went.{Went, extended}
-use Rattle.worker_loop.specs.Runs.{AttendsBy, Began}
+use Rattle.worker_loop.specs.Runs.{AttendsBy}
 use Rattle.worker_loop.specs.Owned.{Tracks}
 use Rattle.worker_loop.specs.Met.{IsSomebodys, IsEnded, IsClient, Meets, AllEnded}
 use Rattle.worker_loop.proofs.Lists.{extended_twice, extended_none, contains_none, history-append, steps-append}

@@ -1,5 +1,5 @@
-use Rattle.std.proofs.Common.{rules, arith, ◌≡◌, sym, ◌∙◌, ap, refl}
-use Rattle.slab.specs.Slab.{get, with_value}
+use Rattle.std.proofs.Common.{rules, arith, sym, refl}
+use Rattle.slab.specs.Slab.{with_value}
 use Rattle.conn_service.proofs.Lists.{grew_none}
 use Rattle.worker_loop.proofs.Servings.{step_open, step_over, step_lost, lost_stops, unfinished, moved, strayed}
 use Rattle.worker_loop.proofs.Accountings.{accounts_open, accounts_over}
