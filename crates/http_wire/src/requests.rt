@@ -237,8 +237,8 @@ fn request_with(
     ensures { IfOk result (IsRequestOf method.now target.now version (lines_at buf.now lines.now) peer) }
 {
     let query = copied(alloc, head.query)?;
-    let keep = may_go_on(buf, lines, &head.options, version);
-    let lines = backend_lines(alloc, buf, lines, &head.options, head.host, peer)?;
+    let keep = may_go_on(buf, lines, version, head);
+    let lines = backend_lines(alloc, buf, lines, head, peer)?;
     Ok(Request {
         method: Bytes::from_slice(alloc, method)?,
         host: Bytes::from_slice(alloc, head.host)?,
@@ -252,11 +252,11 @@ fn request_with(
 }
 
 // Whether the client's connection may go on.
-fn may_go_on(buf: &[u8], lines: &[HeaderSpan], options: &Options<'_>, version: u8) -> bool
-    requires { HoldOptions buf.now options.now.lines.now (option_map (λ o. o.now) options.now.only) lines.now }
+fn may_go_on(buf: &[u8], lines: &[HeaderSpan], version: u8, head: &Sound<'_>) -> bool
+    requires { HoldOptions buf.now head.now.options.lines.now (option_map (λ o. o.now) head.now.options.only) lines.now }
     ensures { result ≡ keeps version (lines_at buf.now lines.now) }
 {
-    version == 1 && !is_option(buf, lines, options, b"close")
+    version == 1 && !is_option(buf, lines, &head.options, b"close")
 }
 
 fn copied(alloc: Global, text: Option<&[u8]>) -> Result<Option<Bytes>, Memory>
@@ -273,18 +273,17 @@ fn backend_lines(
     alloc: Global,
     buf: &[u8],
     lines: &[HeaderSpan],
-    options: &Options<'_>,
-    host: &[u8],
+    head: &Sound<'_>,
     peer: Ip,
 ) -> Result<FieldLines, Memory>
     requires lines { AreWithin buf.now lines.now }
-    requires options { HoldOptions buf.now options.now.lines.now (option_map (λ o. o.now) options.now.only) lines.now }
-    ensures { IfOk result (λ all. all ≡ lines_for_backend peer host.now (lines_at buf.now lines.now)) }
+    requires options { HoldOptions buf.now head.now.options.lines.now (option_map (λ o. o.now) head.now.options.only) lines.now }
+    ensures { IfOk result (λ all. all ≡ lines_for_backend peer head.now.host.now (lines_at buf.now lines.now)) }
 {
-    let mut all = client_lines(alloc, buf, lines, options)?;
+    let mut all = client_lines(alloc, buf, lines, &head.options)?;
     let mut address = Vec::with_capacity(alloc, 16)?;
     push_address(alloc, peer, &mut address)?;
-    push_told(&mut all, address.as_slice(), host)?;
+    push_told(&mut all, address.as_slice(), head.host)?;
     Ok(all)
 }
 
