@@ -236,16 +236,44 @@ fn request_with(
     requires path { Normalises (path_of target.now) path.items }
     ensures { IfOk result (IsRequestOf method.now target.now version (lines_at buf.now lines.now) peer) }
 {
-    let query = copied(alloc, head.query)?;
+    let lines_on = backend_lines(alloc, buf, lines, head, peer)?;
     let keep = may_go_on(buf, lines, version, head);
-    let lines = backend_lines(alloc, buf, lines, head, peer)?;
+    made_of(
+        alloc,
+        method,
+        head.host,
+        path,
+        head.query,
+        lines_on,
+        head.framing,
+        version,
+        keep,
+    )
+}
+
+// A request of these parts.
+fn made_of(
+    alloc: Global,
+    method: &[u8],
+    host: &[u8],
+    path: Vec<u8>,
+    query: Option<&[u8]>,
+    lines: FieldLines,
+    framing: Framing,
+    version: u8,
+    keep: bool,
+) -> Result<Request, Memory>
+    ensures texts { IfOk result (λ r. (r.method ≡ method.now) × (r.host ≡ host.now) × (r.path ≡ path.items)
+        × (r.query ≡ option_map (λ q. q.now) query.entry) × (r.lines ≡ lines)) }
+    ensures rest { IfOk result (λ r. (r.framing ≡ framing) × (r.version ≡ version) × (r.keep ≡ keep)) }
+{
     Ok(Request {
         method: Bytes::from_slice(alloc, method)?,
-        host: Bytes::from_slice(alloc, head.host)?,
+        host: Bytes::from_slice(alloc, host)?,
         path: Bytes::from_vec(path),
-        query,
+        query: copied(alloc, query)?,
         lines,
-        framing: head.framing,
+        framing,
         version,
         keep,
     })
