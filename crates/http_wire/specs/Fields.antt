@@ -51,7 +51,7 @@ pub record HaveOptions (buf : List ℕ) (some : List HeaderSpan) (only : Option 
   pub same : HaveSameOptions buf some all
   pub alone : ForSome only (IsOnlyOption (lines_at buf all))
 
--- the same, for those that only hand it on
+-- the same, closed, for those that only hand it on
 unfoldable pub HoldOptions : List ℕ → List HeaderSpan → Option (List ℕ) → List HeaderSpan → Type 0
 HoldOptions buf some only all = HaveOptions buf some only all
 

@@ -28,13 +28,19 @@ pub fn own_content(alloc: Global, status: u16) -> Result<Vec<u8>, Memory>
     requires { IsTrue (is_own_error status) }
     ensures { IfOk result (λ text. text.items ≡ content_of status) }
 {
-    let words = lowered(alloc, words_of(status))?;
+    let words = content_words(alloc, status)?;
     let mut text = Vec::new(alloc);
     print_decimal(status as u64, &mut text)?;
     text.extend_from_slice(b" ")?;
     text.extend_from_slice(words.as_slice())?;
     text.extend_from_slice(b"\n")?;
     Ok(text)
+}
+
+fn content_words(alloc: Global, status: u16) -> Result<Vec<u8>, Memory>
+    ensures { IfOk result (λ words. words.items ≡ own_words status) }
+{
+    lowered(alloc, words_of(status))
 }
 
 // What the content says behind the status, perhaps with capitals.

@@ -151,10 +151,24 @@ fn kept_lines(
     requires { AreWithin buf.now lines.now }
     ensures { IfOk result (λ kept. kept ≡ filter (is_kept tells (lines_at buf.now lines.now)) (lines_at buf.now lines.now)) }
 {
-    let options = options_of(buf, lines);
+    kept_among(alloc, buf, lines, &options_of(buf, lines), tells)
+}
+
+// Those of `lines`, which have these options, that go on.
+fn kept_among(
+    alloc: Global,
+    buf: &[u8],
+    lines: &[HeaderSpan],
+    options: &Options<'_>,
+    tells: bool,
+) -> Result<FieldLines, Memory>
+    requires lines { AreWithin buf.now lines.now }
+    requires options { HoldOptions buf.now options.now.lines.now (option_map (λ o. o.now) options.now.only) lines.now }
+    ensures { IfOk result (λ kept. kept ≡ filter (is_kept tells (lines_at buf.now lines.now)) (lines_at buf.now lines.now)) }
+{
     let mut kept = FieldLines::with_capacity(alloc, lines.len(), room_of(lines))?;
     for line in lines {
-        if is_kept_line(buf, lines, &options, line, tells) {
+        if is_kept_line(buf, lines, options, line, tells) {
             kept.push_line(buf, line)?;
         }
     }

@@ -236,27 +236,55 @@ fn request_with(
     requires path { Normalises (path_of target.now) path.items }
     ensures { IfOk result (IsRequestOf method.now target.now version (lines_at buf.now lines.now) peer) }
 {
-    let query = copied(alloc, head.query)?;
-    let keep = may_go_on(buf, lines, &head.options, version);
-    let lines = backend_lines(alloc, buf, lines, &head.options, head.host, peer)?;
+    let lines_on = backend_lines(alloc, buf, lines, head, peer)?;
+    let keep = may_go_on(buf, lines, version, head);
+    made_of(
+        alloc,
+        method,
+        head.host,
+        path,
+        head.query,
+        lines_on,
+        head.framing,
+        version,
+        keep,
+    )
+}
+
+// A request of these parts.
+fn made_of(
+    alloc: Global,
+    method: &[u8],
+    host: &[u8],
+    path: Vec<u8>,
+    query: Option<&[u8]>,
+    lines: FieldLines,
+    framing: Framing,
+    version: u8,
+    keep: bool,
+) -> Result<Request, Memory>
+    ensures texts { IfOk result (λ r. (r.method ≡ method.now) × (r.host ≡ host.now) × (r.path ≡ path.items)
+        × (r.query ≡ option_map (λ q. q.now) query.entry) × (r.lines ≡ lines)) }
+    ensures rest { IfOk result (λ r. (r.framing ≡ framing) × (r.version ≡ version) × (r.keep ≡ keep)) }
+{
     Ok(Request {
         method: Bytes::from_slice(alloc, method)?,
-        host: Bytes::from_slice(alloc, head.host)?,
+        host: Bytes::from_slice(alloc, host)?,
         path: Bytes::from_vec(path),
-        query,
+        query: copied(alloc, query)?,
         lines,
-        framing: head.framing,
+        framing,
         version,
         keep,
     })
 }
 
 // Whether the client's connection may go on.
-fn may_go_on(buf: &[u8], lines: &[HeaderSpan], options: &Options<'_>, version: u8) -> bool
-    requires { HoldOptions buf.now options.now.lines.now (option_map (λ o. o.now) options.now.only) lines.now }
+fn may_go_on(buf: &[u8], lines: &[HeaderSpan], version: u8, head: &Sound<'_>) -> bool
+    requires { HoldOptions buf.now head.now.options.lines.now (option_map (λ o. o.now) head.now.options.only) lines.now }
     ensures { result ≡ keeps version (lines_at buf.now lines.now) }
 {
-    version == 1 && !is_option(buf, lines, options, b"close")
+    version == 1 && !is_option(buf, lines, &head.options, b"close")
 }
 
 fn copied(alloc: Global, text: Option<&[u8]>) -> Result<Option<Bytes>, Memory>
@@ -273,18 +301,17 @@ fn backend_lines(
     alloc: Global,
     buf: &[u8],
     lines: &[HeaderSpan],
-    options: &Options<'_>,
-    host: &[u8],
+    head: &Sound<'_>,
     peer: Ip,
 ) -> Result<FieldLines, Memory>
     requires lines { AreWithin buf.now lines.now }
-    requires options { HoldOptions buf.now options.now.lines.now (option_map (λ o. o.now) options.now.only) lines.now }
-    ensures { IfOk result (λ all. all ≡ lines_for_backend peer host.now (lines_at buf.now lines.now)) }
+    requires options { HoldOptions buf.now head.now.options.lines.now (option_map (λ o. o.now) head.now.options.only) lines.now }
+    ensures { IfOk result (λ all. all ≡ lines_for_backend peer head.now.host.now (lines_at buf.now lines.now)) }
 {
-    let mut all = client_lines(alloc, buf, lines, options)?;
+    let mut all = client_lines(alloc, buf, lines, &head.options)?;
     let mut address = Vec::with_capacity(alloc, 16)?;
     push_address(alloc, peer, &mut address)?;
-    push_told(&mut all, address.as_slice(), host)?;
+    push_told(&mut all, address.as_slice(), head.host)?;
     Ok(all)
 }
 
