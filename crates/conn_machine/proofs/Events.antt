@@ -1,7 +1,7 @@
 -- What an event tells.
 use Rattle.std.proofs.Common.{◌≡◌, ◌+◌, ◌≤◌, List, [], ◌∷◌, ◌++◌, ℕ, length, sym, ◌∙◌, ap, subst, vec_len}
 use Rattle.conversation.specs.Steps.{Step}
-use Rattle.conn_machine.specs.Events.{step_of, back_step_of, shape_of, IsEnabled, IsBackEnabled, ServerAfter}
+use Rattle.conn_machine.specs.Events.{step_of, back_step_of, shape_of, IsEnabled, IsBackEnabled, ServerAfter, number_after}
 use Rattle.conn_machine.specs.Reached.{Reached, back_pending_of, pending_to, pending_of}
 use Rattle.conn_machine.specs.declared.event.ConnEvent.{ConnEvent}
 use Rattle.conn_machine.specs.declared.event.ConnEvent.TheVariants as event
@@ -17,6 +17,10 @@ event_told c d steps v is r = subst (λ (x : ConnEvent). Reached (steps ++ step_
 
 pub event_server : (c d : Conn) {e : ConnEvent} (v : ConnEvent) → e ≡ v → ServerAfter v c d → ServerAfter e c d
 event_server c d v is s = subst (λ (x : ConnEvent). ServerAfter x c d) (sym is) s
+
+-- the number after an equal event
+pub event_number : {e : ConnEvent} {new : ℕ} (old : ℕ) (v : ConnEvent) → e ≡ v → new ≡ number_after v old → new ≡ number_after e old
+event_number {e} {new} old v is h = subst (λ (x : ConnEvent). new ≡ number_after x old) (sym is) h
 
 pub back_told : (d : Conn) (steps : List Step) (link : ℕ) (pending : List ℕ) {e : BackEvent} (v : BackEvent) → e ≡ v
     → Reached (steps ++ back_step_of link pending v ∷ []) d → Reached (steps ++ back_step_of link pending e ∷ []) d

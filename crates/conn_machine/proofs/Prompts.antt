@@ -13,6 +13,7 @@ use Rattle.conn_machine.specs.Parts.{IsPart, IsFound}
 use Rattle.conn_machine.specs.Relays.{IsOpenBack}
 use Rattle.conn_machine.specs.Prompt.{IsPrompt}
 use Rattle.conn_machine.specs.Reached.{Waits, IsEnding, KeepsServer, pending_of}
+use Rattle.conn_machine.specs.declared.parts.Current.{Current}
 use Rattle.conn_machine.specs.declared.parts.Stage.{Stage}
 use Rattle.conn_machine.specs.declared.parts.Stage.TheVariants.{Head, Exchange, Reply}
 use Rattle.conn_machine.specs.declared.parts.Phase.{Phase}
@@ -119,6 +120,10 @@ away_shut shut w = shut w.phase
 -- it stands where it stood
 pub keeps_same : {c d : Conn} → d.phase ≡ c.phase → d.stage ≡ c.stage → d.current.link ≡ c.current.link → KeepsServer c d
 keeps_same {c} {d} p s l w = (same_wait {c = c} {d = d} p s w, l)
+
+-- the same exchange, by way of a machine whose request and stage are the same
+pub keeps_through : {c d e : Conn} → c.phase ≡ Open → d.stage ≡ c.stage → d.current ≡ c.current → KeepsServer d e → KeepsServer c e
+keeps_through {c} {d} is at m keeps w = (record { phase = is; stage = sym at ∙ (keeps w).0.stage }, (keeps w).1 ∙ ap (λ (x : Current). x.link) m)
 
 pub keeps_away : {c d : Conn} → ¬ (Waits Exchange d) → KeepsServer c d
 keeps_away away w = absurd (away w)

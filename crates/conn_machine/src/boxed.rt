@@ -11,7 +11,7 @@ use std::alloc::Global;
 use std::marker::Model;
 
 /// A request.
-#[derive(Debug, Drop)]
+#[derive(Drop)]
 pub struct BoxedRequest {
     request: Box<Request>,
 }
@@ -40,7 +40,7 @@ impl BoxedRequest {
 }
 
 /// Where a request goes.
-#[derive(Debug, Drop)]
+#[derive(Drop)]
 pub struct BoxedAim {
     aim: Box<Aim>,
 }

@@ -35,7 +35,7 @@ pub enum ConnEvent<'a> {
 }
 
 /// What happens on a link to a server.
-#[derive(Clone, Copy, Debug)]
+#[derive(Clone, Copy)]
 pub enum BackEvent<'a> {
     /// It gave bytes.
     Bytes(&'a [u8]),
@@ -48,7 +48,7 @@ pub enum BackEvent<'a> {
 }
 
 /// What of an event decides whether it may come: its kind, and how many bytes it is of.
-#[derive(Clone, Copy, Debug, PartialEq, Eq)]
+#[derive(Clone, Copy)]
 pub enum EventShape {
     Bytes(usize),
     End,
@@ -63,7 +63,7 @@ pub enum EventShape {
 }
 
 /// What of an event on a link to a server decides whether it may come.
-#[derive(Clone, Copy, Debug, PartialEq, Eq)]
+#[derive(Clone, Copy)]
 pub enum BackShape {
     Bytes(usize),
     End,

@@ -21,7 +21,7 @@ pub const HEAD_LIMIT: usize = 16384;
 pub(crate) const USUAL_LINES: usize = 32;
 
 /// What stands at the front of a client's bytes.
-#[derive(Debug, Drop)]
+#[derive(Drop)]
 pub enum Found {
     /// A part of a head.
     Part,

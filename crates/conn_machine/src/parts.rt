@@ -8,7 +8,7 @@ use std::alloc::Global;
 use std::sync::Arc;
 
 /// Where a connection came.
-#[derive(Debug, Drop)]
+#[derive(Drop)]
 pub struct Client {
     pub link: u32,
     pub entry: Bytes,
@@ -16,7 +16,7 @@ pub struct Client {
 }
 
 /// What the current request asks for.
-#[derive(Debug, Drop)]
+#[derive(Drop)]
 pub enum Asked {
     Nothing,
     Request(BoxedRequest),
@@ -25,7 +25,7 @@ pub enum Asked {
 }
 
 /// Where a request goes: the one server of a balancer.
-#[derive(Debug, Drop)]
+#[derive(Drop)]
 pub struct Aim {
     pub node: u32,
     pub server: Server,
@@ -53,7 +53,7 @@ pub struct Current {
 }
 
 /// What a connection waits for.
-#[derive(Clone, Copy, Debug, PartialEq, Eq)]
+#[derive(Clone, Copy, PartialEq, Eq)]
 pub enum Stage {
     /// The head of a request.
     Head,
@@ -80,7 +80,7 @@ pub enum Stage {
 }
 
 /// Whether a connection goes on.
-#[derive(Clone, Copy, Debug, PartialEq, Eq)]
+#[derive(Clone, Copy)]
 pub enum Phase {
     Open,
     /// A call found no memory: what was read or answered may not be stored.

@@ -19,7 +19,7 @@ use px_base::Memory;
 use std::alloc::{AllocError, Global};
 
 /// How far an exchange is.
-#[derive(Clone, Copy, Debug, PartialEq, Eq)]
+#[derive(Clone, Copy)]
 pub enum Outcome {
     /// The reply isn't whole.
     Going,

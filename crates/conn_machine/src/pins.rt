@@ -25,7 +25,7 @@ use std::alloc::{AllocError, Global};
 use std::sync::Arc;
 
 /// What is made of a request before a server is looked for.
-#[derive(Debug, Drop)]
+#[derive(Drop)]
 pub enum Routed {
     Unknown,
     /// It is refused for this cause.

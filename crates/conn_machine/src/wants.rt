@@ -5,7 +5,7 @@ use crate::conn::Conn;
 use crate::parts::{Phase, Stage};
 
 /// What a connection waits for.
-#[derive(Clone, Copy, Debug, PartialEq, Eq)]
+#[derive(Clone, Copy)]
 pub enum Want {
     /// Bytes of the client.
     Bytes,

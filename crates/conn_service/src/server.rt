@@ -29,7 +29,7 @@ pub(crate) fn dial<W: World>(conn: &mut Conn, alloc: Global, world: &mut W) -> R
         return Ok(());
     };
     conn.reserve()?;
-    let Some(aim) = &conn.current.aim else {
+    let Some(aim) = conn.aim() else {
         return Err(AllocError);
     };
     let link = world.dial(aim.server.host.as_slice(), aim.server.port)?;

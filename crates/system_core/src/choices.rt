@@ -110,7 +110,7 @@ impl System {
         requires { IsAt EventShape.Dialled owner self.old }
         ensures { OnOk result (RanAt DialsAt owner self.old self.new) }
     {
-        let Some(aim) = &self.clients.conns[owner].current.aim else {
+        let Some(aim) = self.clients.conns[owner].aim() else {
             return Err(AllocError);
         };
         let to = authority_of(alloc, aim)?;

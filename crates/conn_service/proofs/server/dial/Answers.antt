@@ -29,7 +29,7 @@ returns-clause-went g c = λ desk.
     went_released c.in_ok-link.link
     (went_then (went_none c.requires (keeps_same c.reserve.ensures.client c.reserve.ensures.current c.reserve.ensures.phase c.reserve.ensures.stage) c.reserve.ensures.reached)
     (went_dial c.in_ok-link.link (linked_still c.requires (keeps_same c.reserve.ensures.client c.reserve.ensures.current c.reserve.ensures.phase c.reserve.ensures.stage)) came c.in_ok-link.ensures.lately.0 (c.reserve.ensures.phase ∙ c.in-Dial.ensures.phase)
-    c.dialled-begun.ensures.client c.dialled-begun.ensures.number c.dialled-begun.ensures.server (λ steps fresh r. c.dialled-begun.ensures.reached steps _ c.in-Some.is fresh r)))
+    c.dialled-begun.ensures.client c.dialled-begun.ensures.number c.dialled-begun.ensures.server (λ steps fresh r. c.dialled-begun.ensures.reached steps c.in-Some.aim.now (sym c.in-Some.ensures.aim) fresh r)))
     (inr (inr (record { before = came.not_come; after = came.come }))) came.come
     (λ same. not_false (subst (λ (i : ℕ). (g.W.World.seen c.args.world.now).come i ≡ true) (sym same) c.requires.come) came.not_come)
     c.release.ensures.seen c.release.ensures.lately

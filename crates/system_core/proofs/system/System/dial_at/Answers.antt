@@ -14,9 +14,9 @@ pub returns : goal.returns
 returns c =
     let k : Link = record { owner = c.args.owner; to = Some c.in_ok-to.to; sent = c.new.result } in
     let same : c.index.result.now ≡ c.requires.0 = indexed c.args.self.now.clients.conns.items c.args.owner c.requires.0 c.index.result.now c.requires.1 c.index.ensures in
-    let aim_is : c.requires.0.current.aim ≡ Some c.in-Some.aim = ap (λ (y : Conn). y.current.aim) (sym same) ∙ c.in-Some.is in
+    let aim_is : c.requires.0.current.aim ≡ Some c.in-Some.aim.now = ap (λ (y : Conn). y.current.aim) (sym same) ∙ sym c.in-Some.ensures.aim in
     let step_is : dial_step c.in_ok-link.link c.requires.0.current.aim ≡ happened c.in_ok-link.link (dialled c.in_ok-to.to.host c.in_ok-to.to.port) =
-    ap (dial_step c.in_ok-link.link) aim_is ∙ ap (λ (h : List ℕ). happened c.in_ok-link.link (dialled h c.in-Some.aim.server.port)) (sym c.in_ok-to.ensures.host)
+    ap (dial_step c.in_ok-link.link) aim_is ∙ ap (λ (h : List ℕ). happened c.in_ok-link.link (dialled h c.in-Some.aim.now.server.port)) (sym c.in_ok-to.ensures.host)
     ∙ ap (λ (p : ℕ). happened c.in_ok-link.link (dialled c.in_ok-to.to.host p)) (sym c.in_ok-to.ensures.port) in
     dials_at c.args.self.now _ c.args.owner c.in_ok-link.link c.requires.0 (record { owner = c.args.owner; to = Some c.in_ok-to.to; sent = c.new.result }) c.in_ok-to.to c.requires.1
     (record { timeline = c.drive.ensures.timeline; stopped = refl }) c.in_ok-link.ensures
