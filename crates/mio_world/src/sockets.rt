@@ -335,16 +335,29 @@ impl Sockets {
     }
 
     /// Waits until a socket is ready or the clock is at `until`, and answers whether that could be done.
+    ///
+    /// The ends that closed links wait for are nobody's to serve: where the clock has no part in it, it waits on while
+    /// only these come.
     pub fn wait<R: Net>(&mut self, rt: &R, now: u64, until: u64) -> bool {
         self.expire(now);
         self.watch_all(rt);
         let timeout = self.timeout(now, until);
+        let once = self.eager || until != u64::MAX;
         self.eager = false;
-        if self.poll.poll(&mut self.events, timeout).is_err() {
-            return false;
+        for _ in 0..self.parked.len() {
+            match self.poll_once(timeout) {
+                Some(served) if served || once => return true,
+                Some(_) => {}
+                None => return false,
+            }
         }
-        self.take_events();
-        true
+        self.poll_once(timeout).is_some()
+    }
+
+    // Waits once. Answers whether a turn may find something to do or the time is over; None where it couldn't wait.
+    fn poll_once(&mut self, timeout: Option<Duration>) -> Option<bool> {
+        self.poll.poll(&mut self.events, timeout).ok()?;
+        Some(self.take_events())
     }
 
     // How long to wait.
@@ -362,8 +375,13 @@ impl Sockets {
         Some(Duration::from_millis(left))
     }
 
-    fn take_events(&mut self) {
+    // Notes which sockets are ready, and closes the streams of closed links that have ended. Answers whether others were
+    // ready, or none at all.
+    fn take_events(&mut self) -> bool {
+        let mut events = 0_usize;
+        let mut ends = 0_usize;
         for event in &self.events {
+            events = events.saturating_add(1);
             let at = event.token().0;
             if at >= self.lines.len() {
                 let door = at - self.lines.len();
@@ -374,15 +392,19 @@ impl Sockets {
             }
             let line = &mut self.lines[at];
             let ended = event.is_read_closed() || event.is_error();
+            if line.ready.parked {
+                ends = ends.saturating_add(1);
+                if ended {
+                    *line = Line::new(None, IDLE);
+                    let _ = self.free.push_back(at);
+                }
+                continue;
+            }
             line.ready.readable = line.ready.readable || event.is_readable() || ended;
             line.ready.writable = line.ready.writable || event.is_writable() || event.is_error();
             line.ready.hung = line.ready.hung || ended;
-            if line.ready.parked && ended {
-                line.ready = IDLE;
-                line.stream = None;
-                let _ = self.free.push_back(at);
-            }
         }
+        events == 0 || ends < events
     }
 }
 
