@@ -18,6 +18,18 @@ expect 4 'request BadEscape' examples/shop.toml < <(head_for shop.test /%2)
 expect 3 'config NotToml' README.md < <(head_for shop.test /)
 expect 5 '' examples/no-such-file.toml < <(head_for shop.test /)
 
+expect 0 'forward last@file http://10.0.0.2:80' examples/routers.toml --entry admin --peer 10.1.2.3 < <(head_for a.test /)
+
+# The README's session: a router beside that of first.toml.
+cat examples/first.toml - >"$room/my.toml" <<'TOML'
+[http.routers.private]
+rule = "PathPrefix(`/private`)"
+service = "vault"
+[[http.services.vault.loadBalancer.servers]]
+url = "http://127.0.0.1:9001"
+TOML
+expect 0 'forward private@file http://127.0.0.1:9001' "$room/my.toml" < <(head_for a.test /x/../private/a)
+
 # Each matcher, by the router that it names.
 rule() { expect 0 "forward $1@file http://10.0.0.1:8080" examples/rules.toml < <(shift; head_for "$@"); }
 rule host Host.Test. /

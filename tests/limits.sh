@@ -1,5 +1,5 @@
 #!/usr/bin/env bash
-# Files and heads at each limit and one past it, and files that are made to be dear: each gets its answer within 20 seconds.
+# Files and heads at each limit and one past it, and files that are made to cost much: each gets its answer within 20 seconds.
 source "$(dirname "$0")/lib/common.sh"
 build
 
@@ -101,7 +101,7 @@ at_limits_of_heads() {
 }
 
 # Deep, long and repeated.
-dear_texts() {
+costly_texts() {
   ask /
   expect 3 'config NotToml' 'a table nested deeply' < <(filled '[a' '.a' $']\n')
   expect 3 'config NotToml' 'a key nested deeply' < <(filled 'a' '.a' $' = 1\n')
@@ -117,7 +117,7 @@ dear_texts() {
 }
 
 # As many entries as fit.
-dear_tables() {
+costly_tables() {
   ask /
   expect 3 'config Unknown k000000' 'keys of the document' < <(filled '' $'k@=1\n' '')
   expect 3 'config TooMany http.routers' 'routers' < <(filled $'[http.routers]\n' $'k@={}\n' '')
@@ -131,20 +131,21 @@ dear_tables() {
   expect 3 'config Later' 'options that are not supported' < <(filled $'[http.middlewares.m.headers]\n' $'k@=1\n' '')
 }
 
-# Rules that ask much of each request.
-dear_rules() {
-  ask "/?$(many 1000 'q@=@&')"
-  expect 0 '404' '50,000 calls that ask a long query' < <(many 1950 "$(router r@ "$(many 25 'Query(`a@`)||')Path(\`/@\`)")"$'\n'; printf '%s' "$server")
-  ask "/$(bytes 8000 a)"
-  expect 0 '404' '256 large patterns' < <(many 256 "$(router r@ 'PathRegexp(`(\pL|\pN|\w){15}b@`)')"$'\n'; printf '%s' "$server")
-  expect 0 '404' 'a pattern that is too big' < <(under 'PathRegexp(`((a{1000}){1000}){1000}`)')
+# Rules that ask much of each request. The one that takes the request is the last, so that all of them are asked.
+costly_rules() {
+  ask "/001949?$(many 1000 'q@=@&')"
+  expect 0 'forward r001949@file http://10.0.0.1:80' '50,000 calls that ask a long query' < <(many 1950 "$(router r@ "$(many 25 'Query(`a@`)||')Path(\`/@\`)")"$'\n'; printf '%s' "$server")
+  ask "/$(bytes 8000 a)b000255"
+  expect 0 'forward r000255@file http://10.0.0.1:80' '256 large patterns' < <(many 256 "$(router r@ 'PathRegexp(`(\pL|\pN|\w){15}b@`)')"$'\n'; printf '%s' "$server")
+  # One that is found in every path, if it is built.
+  expect 0 '404' 'a pattern that is too big' < <(under 'PathRegexp(`/|((a{1000}){1000}){1000}`)')
 }
 
 at_limits_of_files
 at_limits_of_values
 at_limits_of_rules
 at_limits_of_heads
-dear_texts
-dear_tables
-dear_rules
+costly_texts
+costly_tables
+costly_rules
 exit "$status"
