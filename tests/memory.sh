@@ -58,7 +58,7 @@ before=$(resident)
 ask "$requests"
 after=$(resident)
 echo "memory: $before KiB after 1,000 requests, $after KiB after $requests more"
-if [ $((after - before)) -gt 256 ]; then
+if [ $((after - before)) -gt 1024 ]; then
   fail "it grew by $((after - before)) KiB"
 fi
 exit "$status"
