@@ -1,0 +1,4 @@
+pub mod Visiting
+pub mod Searching
+pub mod Flattening
+pub mod Judging
