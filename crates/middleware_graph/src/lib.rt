@@ -5,6 +5,7 @@
 mod cycle;
 mod fault;
 mod flat;
+mod law;
 mod node;
 mod state;
 #[cfg(test)]
@@ -12,5 +13,6 @@ mod tests;
 
 pub use fault::MiddlewareFault;
 pub use flat::flatten;
+pub use law::usable_middlewares_are_sound;
 pub use node::{Flat, Node};
 pub use state::{State, states_of};
