@@ -82,6 +82,60 @@ if [ "$(grep -c ' status 200 Passed ' "$room/access.0")" != 5 ]; then
   fail "the notes are '$(cat "$room/access.0")'"
 fi
 
+# The peer is the address that the client comes from, and the entry point is that of the listener that it came to.
+port=$(free_port)
+other=$(free_port)
+cat >"$room/peers.toml" <<TOML
+[http.routers.inside]
+rule = "ClientIP(\`127.0.0.2\`)"
+entryPoints = ["web"]
+service = "pages"
+[http.routers.side]
+rule = "Path(\`/page\`)"
+entryPoints = ["side"]
+service = "pages"
+[[http.services.pages.loadBalancer.servers]]
+url = "http://127.0.0.1:$backend_port"
+TOML
+start "$port" "$proxy" serve "web=127.0.0.1:$port" "side=127.0.0.1:$other" --file "$room/peers.toml" --requests 3 --access "$room/peers"
+expect 404 '404 page not found
+' /page
+got=$(curl -s --max-time 10 --interface 127.0.0.2 -w '%{http_code}' "http://127.0.0.1:$port/page" || true)
+if [ "$got" != 'hello from behind
+200' ]; then
+  fail "the client at 127.0.0.2 got '$got'"
+fi
+port=$other
+expect 200 'hello from behind
+' /page
+last=0
+ended "$pid" || last=$?
+if [ "$last" != 0 ]; then
+  fail "it ended with $last after three requests"
+fi
+# Three requests were noted, and no more: the stop came with the third.
+if [ "$(grep -c ' gen 1 ' "$room/peers.0")" != 3 ]; then
+  fail "the notes are '$(cat "$room/peers.0")'"
+fi
+
+# A note that can't be written ends it with 10.
+port=$(free_port)
+start "$port" "$proxy" serve "web=127.0.0.1:$port" --access "$room/none/access"
+curl -s --max-time 10 -o /dev/null "http://127.0.0.1:$port/" || true
+last=0
+ended "$pid" || last=$?
+if [ "$last" != 10 ]; then
+  fail "it ended with $last where a note was refused"
+fi
+port=$(free_port)
+start "$port" "$proxy" serve "web=127.0.0.1:$port" --requests 1 --access "$room/none/access"
+curl -s --max-time 10 -o /dev/null "http://127.0.0.1:$port/" || true
+last=0
+ended "$pid" || last=$?
+if [ "$last" != 10 ]; then
+  fail "it ended with $last where the last note was refused"
+fi
+
 # A file that isn't there, a port in use, words that are none.
 ends 5 serve "web=127.0.0.1:$port" --file "$room/none.toml"
 ends 11 serve "web=127.0.0.1:$backend_port" --file "$room/config.toml"

@@ -12,13 +12,12 @@ use Rattle.link_world.specs.declared.note.Cause.{Cause}
 use Rattle.link_world.specs.declared.note.Cause.TheVariants as causes
 use Rattle.link_world.specs.declared.note.EndCause.TheVariants as ending
 use Rattle.link_world.specs.Log.{LinkEvent, gave, gave_end, given, taken, ends}
-use Rattle.back_machine.specs.Replies.{IsReplyAt, HasReply, HasNoReplyYet, IsWhole, content_length}
-use Rattle.back_machine.specs.Exchanges.{BackView, Exchanged, Receives, IsOpen, InUse, Ends, StateHolds}
+use Rattle.back_machine.specs.Replies.{IsReplyAt, HasReply, HasNoReplyYet, IsWhole, IsShort, content_length}
+use Rattle.back_machine.specs.Exchanges.{BackView, Exchanged, Receives, IsOpen, InUse, Ends, IsCut, StateHolds}
 use Rattle.back_machine.specs.declared.state.BackState.{BackState}
 use Rattle.back_machine.specs.declared.state.BackState.TheVariants as state
 use Rattle.back_machine.specs.declared.state.BackCause.{BackCause}
 use Rattle.back_machine.specs.declared.state.BackCause.TheVariants as why
-use Rattle.conversation.specs.Plans.{Plan}
 use Rattle.conversation.specs.Asks.{Ask, asks, refusal}
 use Rattle.conversation.specs.Steps.{Step, happened, failed, history, failures}
 use Rattle.conversation.specs.Turns.{sent, Turn, BackLink, closes, ends_after, message_to, links_of, IsSent, IsOwnText, Answers, AnswersBy, IsTold, IsLinkTold}
@@ -391,6 +390,14 @@ cut_why why.Failed b link method g content e f h some es fs = inl (fs h.0)
 cut_why why.Ended b link method g content e f h some es fs = inr (es h.0)
 cut_why why.Bad b link method g content e f h some es fs = absurd (some h.1)
 
+-- what has come of its content is short
+cut_short : (c : BackCause) (b : BackView) (o : Option HttpReply) (method g content : List ℕ) (e f : Bool) → b.reply ≡ o → o ≢ None → StateHolds (state.Broken c) method g content e f b → Receives method g content o
+    → (a : HttpReply) × HasReply method g a content × IsShort a content
+cut_short c b None method g content e f is some h got = absurd (some refl)
+cut_short why.Failed b (Some a) method g content e f is some h got = (a, got, subst (IsCut content) is h.1)
+cut_short why.Ended b (Some a) method g content e f is some h got = (a, got, subst (IsCut content) is h.1)
+cut_short why.Bad b (Some a) method g content e f is some h got = absurd (some (sym is ∙ h.1))
+
 cut_begun : (o : Option HttpReply) (r : HttpRequest) (u : Turn) (content pending : List ℕ) → o ≢ None → Passing o r u content pending → (u.cause ≡ causes.Passed) × (u.whole ≡ false)
 cut_begun None r u content pending some h = absurd (some refl)
 cut_begun (Some a) r u content pending some h = (h.0, h.3)
@@ -402,8 +409,10 @@ cut_ends {steps} {k} {m} {trail} {input} {pending} {waiting} {over} events faile
     let some : x.back.reply ≢ None = subst (λ (y : BackView). y.reply ≢ None) (sym same) cut.4 in
     let h : StateHolds (state.Broken cut.1) x.r.method (given x.link.events) x.content x.ended x.failed x.back =
     state_at (state.Broken cut.1) x.back x.r.method (given x.link.events) x.content x.ended x.failed (ap (λ (y : BackView). y.state) same ∙ cut.3) x.exchanged.state in
+    let short : (a : HttpReply) × HasReply x.r.method (given x.link.events) a x.content × IsShort a x.content =
+    cut_short cut.1 x.back x.back.reply x.r.method (given x.link.events) x.content x.ended x.failed refl some h x.exchanged.received in
     let begun : (o.stage.turn.cause ≡ causes.Passed) × (o.stage.turn.whole ≡ false) = cut_begun x.back.reply x.r o.stage.turn x.content pending some x.passing in (
-      subst (IfLast (IsCutBy m.link)) (sym o.stage.last_is) (record { begun = begun.0; unfinished = begun.1; back = x.link; back_is = x.sent.back; number = x.number; why = cut_why cut.1 x.back x.link x.r.method (given x.link.events) x.content x.ended x.failed h some x.ends_is x.fails_is }),
+      subst (IfLast (IsCutBy m.link)) (sym o.stage.last_is) (record { begun = begun.0; unfinished = begun.1; back = x.link; back_is = x.sent.back; number = x.number; why = cut_why cut.1 x.back x.link x.r.method (given x.link.events) x.content x.ended x.failed h some x.ends_is x.fails_is; request = x.r; asked = x.sent.won.asked; answer = short.0; content = x.content; came = short.1; short = short.2 }),
       last_some o.last o.stage.turn o.stage.last_is,
     )
   where

@@ -3,7 +3,6 @@ use Rattle.std.proofs.Common.{◌≡◌, inl, ℕ, ◌<◌, ◌≤◌, List, [],
 use Rattle.std.proofs.Common.{Vec}
 use Rattle.std.specs.declared.alloc.Global.{Global}
 use Rattle.std.proofs.lemmas.List.{length-take, take-append-le, take-append-drop, take_all}
-use Rattle.httparse.specs.Grammar.{MayBecomeRequest}
 use Rattle.ip_net.specs.declared.ip.Ip.{Ip}
 use Rattle.link_world.specs.declared.note.Note.{Note}
 use Rattle.link_world.specs.declared.note.Look.{Look}
@@ -12,6 +11,7 @@ use Rattle.link_world.specs.declared.note.EndCause.TheVariants.{Client as ByClie
 use Rattle.link_world.specs.Log.{came}
 use Rattle.conversation.specs.Steps.{Step, happened}
 use Rattle.conversation.specs.Asks.{IsItem}
+use Rattle.conversation.specs.Served.{IsHeadPart}
 use Rattle.conversation.proofs.Tellings.{told_happened}
 use Rattle.conversation.proofs.Holdings.{holds_came}
 use Rattle.conn_machine.specs.Parts.{Trail, TiedBy, Fits, IsFound, AtStage}
@@ -61,7 +61,7 @@ pub reached_client : {steps : List Step} (d : Conn) → d.phase ≡ Over ByClien
     → Opened steps d.client d.current (trail_of d) d.input.items (pending_of d) d.notes.items d.over Head → Reached steps d
 reached_client {steps} d is over part o =
     reached_over d ByClient is o
-    (o.holds.closes over, o.stage.none, o.stage.last_is, o.kept, inl (subst MayBecomeRequest (whole ∙ sym o.stage.rest_is) part.continues))
+    (o.holds.closes over, o.stage.none, o.stage.last_is, o.kept, inl (subst IsHeadPart (whole ∙ sym o.stage.rest_is) (record { unfinished = part.unfinished; continues = part.continues })))
   where
     whole : take 16384 d.input.items ≡ d.input.items
     whole = short_take d.input.items part.room

@@ -1,5 +1,5 @@
 -- What a machine's notes are, and what telling one leaves.
-use Rattle.std.proofs.Common.{length, get_or, drop, ◌≡◌, ◌≢◌, ℕ, ◌<◌, List, [], ◌∷◌, ◌++◌, Option, Some, None, refl, sym, ◌∙◌, ap, subst, arith, Bool, true, false, Vec, vec_len, ◌==◌}
+use Rattle.std.proofs.Common.{length, get_or, drop, ◌≡◌, ◌≢◌, ℕ, ◌<◌, List, [], ◌∷◌, ◌++◌, Option, Some, None, refl, sym, ◌∙◌, ap, subst, arith, Bool, true, false, Vec, vec_len, ◌==◌, inl, inr}
 use Rattle.std.specs.List.{flat_map, AllByRecursion}
 use Rattle.std.specs.declared.alloc.Global.{Global}
 use Rattle.std.proofs.lemmas.List.{append-nil, nil_from_length}
@@ -14,7 +14,7 @@ use Rattle.conversation.specs.Holding.{told, Holds, Sound}
 use Rattle.conversation.proofs.Tellings.{told_happened, sound_happened}
 use Rattle.conversation.proofs.Holdings.{all_both, holds_told, holds_closed, holds_ended, end_told}
 use Rattle.conn_machine.specs.Parts.{Trail, TiedBy, note_by}
-use Rattle.conn_machine.specs.Reached.{Reached, PhaseHolds, ending_note, closed_by, trail_of, IsUnended, IsRequestNote}
+use Rattle.conn_machine.specs.Reached.{Reached, PhaseHolds, ending_note, closed_by, trail_of, IsUnended, IsRequestNote, EndsBy}
 use Rattle.conn_machine.specs.declared.parts.Client.{Client}
 use Rattle.conn_machine.specs.declared.parts.Current.{Current}
 use Rattle.conn_machine.specs.declared.parts.Phase.{Phase}
@@ -204,3 +204,8 @@ some_length v b is fails = grind (arith, nat_tests, v.ok)
 
 pub unended_some : (c : Conn) (b : Bool) → b ≡ (vec_len c.notes == 0) → b ≡ false → IsUnended c
 unended_some c b is fails = unended_waiting c (some_items c.notes b is fails)
+
+-- the end that is told is the end that came
+pub ends_told : (p : Phase) (c cause : EndCause) → p ≡ Over c → EndsBy cause p → EndsBy cause (Told c)
+ends_told p c cause is (inl same) = let e : Over c ≡ Over cause = sym is ∙ same in let f : c ≡ cause = cc in inr (ap (λ (x : EndCause). let y : Phase = Told x in y) f)
+ends_told p c cause is (inr other) = absurd (let e : Over c ≡ Told cause = sym is ∙ other in let f : ⊥ = cc in f)

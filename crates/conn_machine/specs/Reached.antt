@@ -162,6 +162,10 @@ IsNotOver Broken = Unit {0}
 IsNotOver (Over cause) = ⊥
 IsNotOver (Told cause) = Unit {0}
 
+-- it ends for this cause
+abbrev pub EndsBy : EndCause → Phase → Type 0
+EndsBy cause phase = (phase ≡ Over cause) ⊎ (phase ≡ Told cause)
+
 -- it has nothing to note
 abbrev pub IsDrained : Conn → Type 0
 IsDrained c = (c.notes.items ≡ []) × IsNotOver c.phase

@@ -2,12 +2,13 @@
 ghost use Rattle.std.specs.Prelude.{◌≡◌, ◌≢◌, ◌<◌, ◌++◌, ◌∷◌, [], List, ℕ, IfSome, IfNone, IsTrue, ◌↔◌};
 ghost use Rattle.std.specs.List.{AllByRecursion, Contains};
 ghost use Rattle.link_world.specs.Log.{noted};
+ghost use Rattle.link_world.specs.declared.note.EndCause.{EndCause as Cause};
 ghost use Rattle.conversation.specs.Plans.{Plan};
 ghost use Rattle.conversation.specs.Steps.{Step, happened, failures, stops, pins};
 ghost use Rattle.conversation.specs.Served.{Served};
 ghost use Rattle.conn_machine.specs.Parts.{no_trail, note_by};
 ghost use Rattle.conn_machine.specs.Prompt.{IsPrompt};
-ghost use Rattle.conn_machine.specs.Reached.{Reached, IsOpen, IsEnding, IsDrained, IsFinished, IsUnended, notes_left};
+ghost use Rattle.conn_machine.specs.Reached.{Reached, IsOpen, IsEnding, IsDrained, IsFinished, IsUnended, EndsBy, notes_left};
 
 use crate::conn::Conn;
 use crate::parts::{Current, Phase};
@@ -26,6 +27,7 @@ impl Conn {
         ensures open { IsOpen self.old → self.new ≡ record self.old { notes = self.new.notes } }
         ensures opens { IsOpen self.new → IsOpen self.old }
         ensures ending { IsEnding self.old.phase → IsEnding self.new.phase }
+        ensures cause { (cause : Cause) → EndsBy cause self.old.phase → EndsBy cause self.new.phase }
         ensures drained { IfNone result (IsDrained self.new) }
         ensures none { IfNone result (self.new ≡ self.old) }
         ensures of_link { IfSome result (λ note. (steps : List Step) → Reached steps self.old

@@ -5,3 +5,5 @@ pub mod Wents
 pub mod Counts
 pub mod Calms
 pub mod Stretches
+pub mod Completions
+pub mod Farewells

@@ -7,3 +7,4 @@ pub mod Went
 pub mod Calm
 pub mod Released
 pub mod Counts
+pub mod Farewell

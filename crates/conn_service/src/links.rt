@@ -6,6 +6,7 @@ ghost use Rattle.conn_machine.specs.Reached.{IsOpen};
 ghost use Rattle.conn_service.specs.Moments.{moment, IsExchanging, Linked};
 ghost use Rattle.conn_service.specs.Went.{Went};
 ghost use Rattle.conn_service.specs.Released.{Released, IsServer};
+ghost use Rattle.conn_service.specs.Farewell.{OnlyTells};
 
 use conn_machine::{Conn, Phase, Stage};
 use link_world::World;
@@ -41,6 +42,7 @@ pub(crate) fn hang_up<W: World>(conn: &Conn, world: &mut W)
     ensures went { (g : Desk) → Went ⊥ (moment (W.seen world.old) (W.lately world.old) g conn.now)
         (moment (W.seen world.new) (W.lately world.new) g conn.now) }
     ensures open { IsOpen conn.now → W.lately world.new ≡ W.lately world.old }
+    ensures tells { OnlyTells (W.seen world.old) (W.seen world.new) }
 {
     if conn.is_open() {
         return;

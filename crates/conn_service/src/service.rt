@@ -4,19 +4,20 @@ ghost use Rattle.link_world.specs.Seen.{Seen, ReadDid};
 ghost use Rattle.link_world.specs.Lately.{Lately, ReadLately};
 ghost use Rattle.desk.specs.Desks.{Desk};
 ghost use Rattle.conn_machine.specs.Prompt.{IsPrompt};
-ghost use Rattle.conn_machine.specs.Reached.{IsOpen, IsFinished, IsEnding, Waits, pending_of};
+ghost use Rattle.conn_machine.specs.Reached.{IsOpen, IsFinished, IsEnding, EndsBy, Waits, pending_of};
 ghost use Rattle.conn_service.specs.Moments.{moment, Linked, IsTracked, IsReady};
 ghost use Rattle.conn_service.specs.Pins.{IsBelow};
 ghost use Rattle.conn_service.specs.Went.{Went, Lost};
 ghost use Rattle.conn_service.specs.Calm.{Calm};
+ghost use Rattle.conn_service.specs.Farewell.{OnlyTells};
 ghost use Rattle.conn_service.specs.Counts.{Counted};
 
 use crate::client::{answer, read_client, room_for, take_read};
 use crate::links::{hang_up, release, server_of};
 use crate::turn::{ROOM, Reads, UNREAD, work};
-use conn_machine::{Conn, Stage};
+use conn_machine::{Conn, Phase, Stage};
 use desk::Shared;
-use link_world::{LinkRead, World};
+use link_world::{EndCause, LinkRead, World};
 use px_base::Memory;
 use std::alloc::Global;
 use std::sync::Wait;
@@ -118,6 +119,8 @@ pub fn stop<W: World>(conn: &mut Conn, alloc: Global, world: &mut W) -> Result<(
     ensures lost { (g : Desk) → OnErr result (Lost (Unit {0}) (moment (W.seen world.old) (W.lately world.old) g conn.old)
         (W.seen world.new) (W.lately world.new) g) }
     ensures finished { OnOk result (IsFinished conn.new) }
+    ensures stopped { IsOpen conn.old → OnOk result (conn.new.phase ≡ Phase.Told EndCause.Stopped) }
+    ensures tells { OnlyTells (W.seen world.old) (W.seen world.new) }
 {
     halt(conn, world);
     close_and_tell(conn, alloc, world)
@@ -223,6 +226,8 @@ fn halt<W: World>(conn: &mut Conn, world: &mut W)
     ensures went { (g : Desk) → Went (Unit {0}) (moment (W.seen world.old) (W.lately world.old) g conn.old)
         (moment (W.seen world.new) (W.lately world.new) g conn.new) }
     ensures over { IsEnding conn.new.phase }
+    ensures stopped { IsOpen conn.old → EndsBy EndCause.Stopped conn.new.phase }
+    ensures tells { OnlyTells (W.seen world.old) (W.seen world.new) }
 {
     if !conn.is_open() {
         conn.give_up();
@@ -248,6 +253,8 @@ fn close_and_tell<W: World>(conn: &mut Conn, alloc: Global, world: &mut W) -> Re
     ensures told { OnOk result (conn.new.notes.items ≡ []) }
     ensures open { OnOk result (IsOpen conn.old → conn.new ≡ record conn.old { notes = conn.new.notes }) }
     ensures finished { OnOk result (IsEnding conn.old.phase → IsFinished conn.new) }
+    ensures cause { (cause : EndCause) → EndsBy cause conn.old.phase → EndsBy cause conn.new.phase }
+    ensures tells { OnlyTells (W.seen world.old) (W.seen world.new) }
 {
     hang_up(conn, world);
     tell(conn, alloc, world)
@@ -266,6 +273,8 @@ fn tell<W: World>(conn: &mut Conn, alloc: Global, world: &mut W) -> Result<(), M
     ensures told { OnOk result (conn.new.notes.items ≡ []) }
     ensures open { OnOk result (IsOpen conn.old → conn.new ≡ record conn.old { notes = conn.new.notes }) }
     ensures finished { OnOk result (IsEnding conn.old.phase → IsFinished conn.new) }
+    ensures cause { (cause : EndCause) → EndsBy cause conn.old.phase → EndsBy cause conn.new.phase }
+    ensures tells { OnlyTells (W.seen world.old) (W.seen world.new) }
 {
     if is_quiet(conn) {
         return Ok(());

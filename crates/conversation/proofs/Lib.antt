@@ -1,2 +1,4 @@
 pub mod Tellings
 pub mod Holdings
+pub mod Cuttings
+pub mod Completions

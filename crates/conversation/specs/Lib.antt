@@ -4,3 +4,4 @@ pub mod Asks
 pub mod Turns
 pub mod Served
 pub mod Holding
+pub mod Complete

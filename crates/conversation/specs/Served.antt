@@ -3,6 +3,10 @@ use Rattle.std.specs.Prelude.{◌≡◌, ◌≢◌, ℕ, ◌+◌, ◌≤◌, ◌
 use Rattle.std.specs.List.{flat_map, AllByRecursion, Contains}
 use Rattle.ip_net.specs.declared.ip.Ip.{Ip}
 use Rattle.httparse.specs.Grammar.{MayBecomeRequest}
+use Rattle.head_view.specs.Scans.{HasHead}
+use Rattle.http_wire.specs.declared.message.Request.{Request}
+use Rattle.http_wire.specs.declared.message.Reply.{Reply}
+use Rattle.back_machine.specs.Replies.{HasReply, IsShort}
 use Rattle.link_world.specs.Log.{LinkEvent, came, given, taken, notes, ends}
 use Rattle.link_world.specs.declared.note.Note.{Note}
 use Rattle.link_world.specs.declared.note.NoteBody.TheVariants as body
@@ -13,7 +17,7 @@ use Rattle.link_world.specs.declared.note.EndCause.{EndCause}
 use Rattle.link_world.specs.declared.note.EndCause.TheVariants.{Client, ClientFailed, Asked, Refused, Unread, Idle, Count, Cut, CutLate, Stopped, Memory}
 use Rattle.conversation.specs.Plans.{Plan}
 use Rattle.conversation.specs.Steps.{Step, history, pins, looks, picks, spents}
-use Rattle.conversation.specs.Asks.{IsItem}
+use Rattle.conversation.specs.Asks.{IsItem, asks, line_limit}
 use Rattle.conversation.specs.Turns.{BackLink, Turn, note_of, end_of, Answers, IsShown}
 
 -- a list of each request, and of a last one where there is one
@@ -86,12 +90,24 @@ pub record IsCutBy (link : ℕ) (t : Turn) : Type 0 where
   pub back_is : t.back ≡ Some back
   pub number : back.link ≡ link
   pub why : (back.faults ≢ []) ⊎ (ends back.events ≢ [])
+  -- what has come of the content is short of what the head told
+  pub request : Request
+  pub asked : t.ask ≡ asks request
+  pub answer : Reply
+  pub content : List ℕ
+  pub came : HasReply request.method (given back.events) answer content
+  pub short : IsShort answer content
+
+-- the bytes are a part of a head, of which more has to come
+pub record IsHeadPart (rest : List ℕ) : Type 0 where
+  pub unfinished : ¬ (HasHead line_limit rest)
+  pub continues : MayBecomeRequest rest
 
 -- When each end comes. `rest` is what the client gave and no request has, `left` what of the replies it didn't take,
 -- `last` a request whose whole reply it didn't take.
 abbrev pub EndHolds : EndCause → List LinkEvent → (done : List Turn) → Option Turn → (rest left : List ℕ) → (failed stopped : Type 0) → Type 0
 EndHolds Client history done last rest left failed stopped =
-    (ends history ≢ []) × (left ≡ []) × (last ≡ None) × AllByRecursion IsKept done × (MayBecomeRequest rest ⊎ (done ≢ []))
+    (ends history ≢ []) × (left ≡ []) × (last ≡ None) × AllByRecursion IsKept done × (IsHeadPart rest ⊎ (done ≢ []))
 EndHolds ClientFailed history done last rest left failed stopped = failed
 EndHolds Asked history done last rest left failed stopped = (left ≡ []) × (last ≡ None) × EndsAfter Asked done
 EndHolds Refused history done last rest left failed stopped = (left ≡ []) × (last ≡ None) × EndsAfter Refused done

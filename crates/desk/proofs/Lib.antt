@@ -1,4 +1,4 @@
 pub mod Numbers
-pub mod Joins
 pub mod Keeps
+pub mod Counts
 pub mod Timelines

@@ -1,7 +1,7 @@
 -- Generations under numbers that run up.
-use Rattle.std.proofs.Common.{◌≡◌, ℕ, ◌+◌, ◌≤◌, List, [], ◌∷◌, ◌++◌, refl, sym, ap, ◌∙◌, subst, arith}
+use Rattle.std.proofs.Common.{◌≡◌, ℕ, ◌+◌, ◌≤◌, List, [], ◌∷◌, ◌++◌, length, refl, sym, ap, ◌∙◌, subst, arith, append-nil, length-append}
 use Rattle.conversation.specs.Plans.{Plan}
-use Rattle.desk.specs.Desks.{IsNumbered, IsLast, IsGreatest}
+use Rattle.desk.specs.Desks.{IsNumbered, IsLast, IsGreatest, Grew}
 
 -- the numbers run up from this one
 abbrev IsRun : ℕ → List Plan → Type 0
@@ -48,3 +48,29 @@ numbered_more ps p q e h = let r = some_run ps p h in numbered_of r.0 ((ps ++ p 
 
 pub numbered_one : (p : Plan) → IsNumbered (p ∷ [])
 numbered_one p = numbered_of p.number (p ∷ []) (refl, tt)
+
+-- the last number of a run tells how long it is
+run_length : (n : ℕ) (ps : List Plan) (p : Plan) → IsRun n (ps ++ p ∷ []) → p.number ≡ n + length ps
+run_length n [] p h = omega (arith, h.0)
+run_length n (q ∷ ps) p h = omega (arith, run_length (n + 1) ps p h.1)
+
+run_front : (n : ℕ) (ps qs : List Plan) → IsRun n (ps ++ qs) → IsRun n ps
+run_front n [] qs h = tt
+run_front n (p ∷ ps) qs h = (h.0, run_front (n + 1) ps qs h.1)
+
+none_of : (ps : List Plan) → length ps ≡ 0 → ps ≡ []
+none_of [] h = refl
+none_of (p ∷ ps) h = absurd (omega (arith, h))
+
+-- a list that grew and still ends with its number is the same
+pub whole : (plans seen : List Plan) (p q : Plan) → IsNumbered seen → Grew plans seen → IsLast plans p → IsLast seen q → p.number ≡ q.number → seen ≡ plans
+whole plans seen p q h g l m e =
+    let r = some_run m.0 q (subst IsNumbered m.1 h) in
+    let all : q.number ≡ r.0 + length m.0 = run_length r.0 m.0 q r.1 in
+    let front : IsRun r.0 plans = run_front r.0 plans g.0 (subst (IsRun r.0) (sym m.1 ∙ g.1) r.1) in
+    let some : p.number ≡ r.0 + length l.0 = run_length r.0 l.0 p (subst (IsRun r.0) l.1 front) in
+    let seen_long : length seen ≡ length m.0 + length (q ∷ []) = ap length m.1 ∙ length-append m.0 (q ∷ []) in
+    let plans_long : length plans ≡ length l.0 + length (p ∷ []) = ap length l.1 ∙ length-append l.0 (p ∷ []) in
+    let both_long : length seen ≡ length plans + length g.0 = ap length g.1 ∙ length-append plans g.0 in
+    let none : length g.0 ≡ 0 = omega (arith, all, some, e, seen_long, plans_long, both_long) in
+    g.1 ∙ ap (λ (ms : List Plan). plans ++ ms) (none_of g.0 none) ∙ append-nil plans

@@ -13,9 +13,13 @@ use Rattle.conversation.specs.Plans.{Plan}
 use Rattle.generation.specs.Meaning.{plan_of}
 use Rattle.generation.specs.declared.generation.Generation.{Generation}
 use Rattle.desk.specs.Desks.{Desk, Seat, IsNumbered, IsLast, IsGreatest, Pinned, Refused, IsHeld, IsAttended, held}
-use Rattle.desk.specs.Issues.{published_plan, generations_of, pins_by, pins_of}
+use Rattle.desk.specs.Issues.{published_plan, published_in, generations_of, pins_by, pins_of}
 use Rattle.desk.specs.declared.timeline.Published.{Published}
 use Rattle.desk.proofs.Numbers.{numbered_more, greatest_last}
+
+-- a history grew by the last one
+pub told_more : (told told' : List (Published × ℕ)) (last : Published) (n : ℕ) → told' ≡ told ++ (last, n) ∷ [] → published_in told' ≡ published_in told ++ last ∷ []
+told_more told told' last n e = ap published_in e ∙ map-append (λ (x : Published × ℕ). x.0) told ((last, n) ∷ [])
 
 pub timeline_more : (earlier earlier' : List Published) (newest newest' before next : Published)
     → earlier' ≡ earlier ++ before ∷ [] → before ≡ newest → newest' ≡ next → (published_plan next).number ≡ (published_plan newest).number + 1
@@ -35,6 +39,16 @@ pins_stay earlier earlier' newest newest' before e b z =
     ∙ ap (flat_map pins_by) (e ∙ ap (λ (x : Published). earlier ++ x ∷ []) b)
     ∙ flat_map-append pins_by earlier (newest ∷ [])
     ∙ ap (λ (ps : List Plan). flat_map pins_by earlier ++ ps) (append-nil (pins_by newest))
+
+pub pins_told : (told told' : List (Published × ℕ)) (newest next : Published) (n : ℕ) → told' ≡ told ++ (newest, n) ∷ [] → next.pins ≡ 0
+    → pins_of (published_in told') next ≡ pins_of (published_in told) newest
+pins_told told told' newest next n e z = pins_stay (published_in told) (published_in told') newest next newest (told_more told told' newest n e) refl z
+
+pub generations_told : (told told' : List (Published × ℕ)) (newest next : Published) (n : ℕ) → told' ≡ told ++ (newest, n) ∷ []
+    → generations_of (published_in told') next ≡ generations_of (published_in told) newest ++ published_plan next ∷ []
+generations_told told told' newest next n e =
+    ap (λ (ps : List Plan). ps ++ published_plan next ∷ [])
+    (ap (map published_plan) (told_more told told' newest n e) ∙ map-append published_plan (published_in told) (newest ∷ []))
 
 -- one more pin of the newest
 pub pins_more : (earlier : List Published) (newest : Published)

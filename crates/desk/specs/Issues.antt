@@ -1,5 +1,5 @@
 -- Published generations that are held by their owners.
-use Rattle.std.specs.Prelude.{List, [], ◌∷◌, ◌++◌, map, replicate}
+use Rattle.std.specs.Prelude.{ℕ, List, [], ◌∷◌, ◌++◌, map, replicate}
 use Rattle.std.specs.List.{flat_map}
 use Rattle.std.specs.declared.sync.Arc.{Arc}
 use Rattle.std.specs.declared.alloc.Global.{Global}
@@ -14,6 +14,10 @@ issue_plan issue = plan_of (arc_value issue)
 
 abbrev pub published_plan : Published → Plan
 published_plan p = issue_plan p.issue
+
+-- those that a history tells
+abbrev pub published_in : List (Published × ℕ) → List Published
+published_in told = map (λ (e : Published × ℕ). e.0) told
 
 -- the earlier ones, then the newest
 abbrev pub generations_of : List Published → Published → List Plan

@@ -1,4 +1,4 @@
 pub mod Desks
 pub mod Issues
 pub mod Kept
-pub mod Runs
+pub mod Told

@@ -4,13 +4,13 @@
 
 mod laws;
 mod one;
-mod runs;
 mod seats;
 mod server;
 mod shared;
 #[cfg(test)]
 mod tests;
 mod timeline;
+mod told;
 
 pub use laws::the_last_is_the_greatest;
 pub use one::OneDesk;

@@ -1,6 +1,7 @@
 //! What one thread shares with itself.
-ghost use Rattle.std.specs.Prelude.{◌≡◌, ◌<◌, ◌+◌, ◌++◌, ◌∷◌, [], ℕ, None, OnOk, OnErr, IfOk};
-ghost use Rattle.desk.specs.Desks.{IsAttended, LookDid, RoomLeft};
+ghost use Rattle.std.specs.Prelude.{◌≡◌, ◌<◌, ◌+◌, ◌++◌, ◌∷◌, [], ℕ, List, None, OnOk, OnErr, IfOk};
+ghost use Rattle.conversation.specs.Plans.{Plan};
+ghost use Rattle.desk.specs.Desks.{IsAttended, LookDid, RoomLeft, Grew, IsLast};
 ghost use Rattle.desk.specs.Issues.{issue_plan};
 ghost use Rattle.desk.specs.Kept.{desk_of, room_of, newest_plan};
 
@@ -15,10 +16,9 @@ use std::alloc::Global;
 use std::sync::{Arc, Wait};
 use wrr_deadlines::Drawn;
 
-/// A desk of one thread. Each server counts as up. It stores how often each generation was pinned, runs of equal looks,
-/// and runs of picks that follow one another at a node, so any number of requests at one node take no more memory than
-/// one. Since it tells all looks and picks of a number in their order, a run ends where another node or number has its
-/// turn: where several take turns, each turn takes a run of each kind, until its number is retired.
+/// A desk of one thread. Each server counts as up. It holds the newest generation, since no other can be pinned, and a count
+/// for each number and node that a pick was made at: looks, picks and pins are a history that contracts alone read. So
+/// requests take no memory, at however many nodes.
 #[derive(Drop)]
 pub struct OneDesk {
     pub(crate) timeline: Timeline,
@@ -36,20 +36,23 @@ impl OneDesk {
     {
         let server = OneServer::new(alloc)?;
         Ok(OneDesk {
-            timeline: Timeline::new(alloc, first),
+            timeline: Timeline::new(first),
             seats: Seats::new(alloc),
             server,
         })
     }
 
-    /// The number of the last generation.
+    /// The number of the last generation. A list that its generations begin with, and that ends with this number, is all of
+    /// them.
     pub fn number(&self) -> u64
-        ensures { result ≡ (newest_plan self.now).number }
+        ensures number { result ≡ (newest_plan self.now).number }
+        ensures all { (plans : List Plan) (p : Plan) → Grew plans (desk_of self.now).generations → IsLast plans p → p.number ≡ result
+            → (desk_of self.now).generations ≡ plans }
     {
         self.timeline.newest.issue.number()
     }
 
-    /// Adds the next generation. Its number is one more than that of the last one.
+    /// Adds the next generation, and lets go of the last one. Its number is one more than that one's.
     pub fn publish(&mut self, issue: Arc<Generation, Global>) -> Result<(), Memory>
         requires next { (issue_plan issue).number ≡ (newest_plan self.old).number + 1 }
         ensures ok { OnOk result (desk_of self.new ≡ record (desk_of self.old) { generations = (desk_of self.old).generations ++ issue_plan issue ∷ [] }) }
@@ -57,7 +60,8 @@ impl OneDesk {
         ensures newest { OnOk result (newest_plan self.new ≡ issue_plan issue) }
         ensures kept { OnErr result (newest_plan self.new ≡ newest_plan self.old) }
     {
-        self.timeline.publish(issue)
+        self.timeline.publish(issue);
+        Ok(())
     }
 }
 

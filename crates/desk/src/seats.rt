@@ -1,38 +1,41 @@
 // What was looked at and drawn under each number that is attended.
-ghost use Rattle.std.specs.Prelude.{◌≡◌, ◌≢◌, ◌<◌, ◌≤◌, ℕ, Some, None, OnOk, OnErr, not, ◌==◌, ◌&&◌, ◌+◌, ◌++◌, filter, vec_len, vec_capacity};
-ghost use Rattle.std.specs.List.{flat_map};
+ghost use Rattle.std.specs.Prelude.{◌≡◌, ◌≢◌, ◌<◌, ◌≤◌, ℕ, Some, None, OnOk, OnErr, not, ◌==◌, ◌+◌, ◌++◌, ◌∷◌, [], filter, vec_len, vec_capacity, if◌then◌else◌};
 ghost use Rattle.desk.specs.Desks.{IsHeld, held, with_look, DrawDid, RoomLeft};
-ghost use Rattle.desk.specs.Kept.{seats_of, room_of};
-ghost use Rattle.desk.specs.Runs.{look_by, pick_by, last_end};
+ghost use Rattle.desk.specs.Told.{last_count, is_count, AreCounted};
 
-use crate::runs::{LookRun, PickRun};
 use crate::server::OneServer;
-use link_world::Look;
+use crate::told::{NodeCount, Told};
+use http_server::Log;
+use link_world::{Look, NodePick};
 use px_base::Memory;
 use std::alloc::Global;
 use wrr_deadlines::Drawn;
 
-/// The numbers that are attended, and the looks and picks of all of them in order. What goes on with the last run of its
-/// list takes no place of its own.
+/// The numbers that are attended, and how many pops were taken at each node under each of them: that is all that a draw
+/// needs.
 #[derive(Drop)]
 pub(crate) struct Seats {
     pub(crate) numbers: Vec<u64>,
-    pub(crate) looks: Vec<LookRun>,
-    pub(crate) picks: Vec<PickRun>,
+    pub(crate) counts: Vec<NodeCount>,
+    /// The looks and picks of all numbers in their order, as contracts see them: it takes no memory.
+    pub(crate) told: Log<u64, Told>,
+    ghost counted: { AreCounted counts.items told.items },
 }
 
 impl Seats {
+    ghost use Rattle.desk.specs.Kept.{seats_of, room_of};
+
     pub(crate) fn new(alloc: Global) -> Seats
         ensures { (number : ℕ) → seats_of result number ≡ None }
     {
         Seats {
             numbers: Vec::new(alloc),
-            looks: Vec::new(alloc),
-            picks: Vec::new(alloc),
+            counts: Vec::new(alloc),
+            told: Log::new(),
         }
     }
 
-    /// Seats the number, if it isn't, and makes the room for one look and one pick.
+    /// Seats the number, if it isn't, and makes the room for one pick.
     pub(crate) fn attend(&mut self, number: u64) -> Result<(), Memory>
         ensures seat { OnOk result (seats_of self.new number ≡ Some (held (seats_of self.old number))) }
         ensures others { OnOk result ((n : ℕ) → n ≢ number → seats_of self.new n ≡ seats_of self.old n) }
@@ -41,31 +44,33 @@ impl Seats {
         ensures room { RoomLeft (room_of self.old) 0 0 (room_of self.new) }
     {
         self.numbers.reserve(1)?;
-        self.looks.reserve(1)?;
-        self.picks.reserve(1)?;
+        self.counts.reserve(1)?;
         if !self.numbers.as_slice().contains(&number) {
-            // Nothing of an earlier seat of this number may show.
-            forget_looks(&mut self.looks, number);
-            forget_picks(&mut self.picks, number);
+            self.begin(number);
             self.numbers.push_reserved(number);
         }
         Ok(())
     }
 
+    // Nothing of an earlier seat of this number may show.
+    fn begin(&mut self, number: u64)
+        ensures numbers { self.new.numbers ≡ self.old.numbers }
+        ensures told { self.new.told.items ≡ self.old.told.items ++ (number, Told.Began) ∷ [] }
+        ensures len { vec_len self.new.counts ≤ vec_len self.old.counts }
+        ensures capacity { vec_capacity self.new.counts ≡ vec_capacity self.old.counts }
+    {
+        self.told = self.told.and(&number, &Told::Began);
+        forget_counts(&mut self.counts, number);
+    }
+
     /// Keeps a look.
     pub(crate) fn look(&mut self, number: u64, look: Look)
         requires held { IsHeld (seats_of self.old number) }
-        requires room { 0 < (room_of self.old).looks }
         ensures seat { seats_of self.new number ≡ Some (with_look (held (seats_of self.old number)) look) }
         ensures others { (n : ℕ) → n ≢ number → seats_of self.new n ≡ seats_of self.old n }
         ensures room { RoomLeft (room_of self.old) 1 0 (room_of self.new) }
     {
-        let next = LookRun {
-            number,
-            look,
-            count: 1,
-        };
-        keep_looks(&mut self.looks, next);
+        self.told = self.told.and(&number, &Told::Looked(look));
     }
 
     /// Draws at a node, by the pops that were taken there, and keeps the pick.
@@ -77,16 +82,18 @@ impl Seats {
         ensures others { (n : ℕ) → n ≢ number → seats_of self.new n ≡ seats_of self.old n }
         ensures room { RoomLeft (room_of self.old) 0 1 (room_of self.new) }
     {
-        let count = count_at(self.picks.as_slice(), number, node);
+        let count = count_at(self.counts.as_slice(), number, node);
         let drawn = server.draw(count, mask);
         if let Drawn::Pick(pick) = drawn {
-            let next = PickRun {
-                number,
-                node,
-                from: pick.from,
-                to: pick.to,
-            };
-            keep_picks(&mut self.picks, next);
+            self.told = self.told.and(&number, &Told::Drew(NodePick { node, pick }));
+            put_count(
+                &mut self.counts,
+                NodeCount {
+                    number,
+                    node,
+                    pops: pick.to,
+                },
+            );
         }
         drawn
     }
@@ -97,9 +104,8 @@ impl Seats {
         ensures others { (n : ℕ) → n ≢ number → seats_of self.new n ≡ seats_of self.old n }
         ensures room { RoomLeft (room_of self.old) 0 0 (room_of self.new) }
     {
+        self.begin(number);
         forget_number(&mut self.numbers, number);
-        forget_looks(&mut self.looks, number);
-        forget_picks(&mut self.picks, number);
     }
 }
 
@@ -109,77 +115,50 @@ fn forget_number(numbers: &mut Vec<u64>, number: u64)
     numbers.retain(|held| *held != number);
 }
 
-fn forget_looks(looks: &mut Vec<LookRun>, number: u64)
-    ensures items { looks.new.items ≡ filter (λ x. not (x.number == number)) looks.old.items }
-    ensures len { vec_len looks.new ≤ vec_len looks.old }
-    ensures capacity { vec_capacity looks.new ≡ vec_capacity looks.old }
+fn forget_counts(counts: &mut Vec<NodeCount>, number: u64)
+    ensures items { counts.new.items ≡ filter (λ c. not (c.number == number)) counts.old.items }
+    ensures len { vec_len counts.new ≤ vec_len counts.old }
+    ensures capacity { vec_capacity counts.new ≡ vec_capacity counts.old }
 {
-    looks.retain(|held| held.number != number);
+    counts.retain(|held| held.number != number);
 }
 
-fn forget_picks(picks: &mut Vec<PickRun>, number: u64)
-    ensures items { picks.new.items ≡ filter (λ x. not (x.number == number)) picks.old.items }
-    ensures len { vec_len picks.new ≤ vec_len picks.old }
-    ensures capacity { vec_capacity picks.new ≡ vec_capacity picks.old }
+// Keeps a count, in place of the one before of its number and node. It stands last, where the next draw there looks first.
+fn put_count(counts: &mut Vec<NodeCount>, next: NodeCount)
+    requires { vec_len counts.old < vec_capacity counts.old }
+    ensures counts { (number node : ℕ) → last_count number node 0 counts.new.items
+        ≡ (if is_count next number node then next.pops else last_count number node 0 counts.old.items) }
+    ensures len { vec_len counts.new ≤ vec_len counts.old + 1 }
+    ensures capacity { vec_capacity counts.new ≡ vec_capacity counts.old }
 {
-    picks.retain(|held| held.number != number);
+    forget_count(counts, next.number, next.node);
+    counts.push_reserved(next);
 }
 
-// Adds looks. Where they go on with the last run, they take no place.
-fn keep_looks(runs: &mut Vec<LookRun>, next: LookRun)
-    requires { vec_len runs.old < vec_capacity runs.old }
-    ensures looks { (n : ℕ) → flat_map (look_by n) runs.new.items ≡ flat_map (look_by n) runs.old.items ++ look_by n next }
-    ensures len { vec_len runs.new ≤ vec_len runs.old + 1 }
-    ensures capacity { vec_capacity runs.new ≡ vec_capacity runs.old }
+fn forget_count(counts: &mut Vec<NodeCount>, number: u64, node: u32)
+    ensures items { counts.new.items ≡ filter (λ c. not (is_count c number node)) counts.old.items }
+    ensures len { vec_len counts.new ≤ vec_len counts.old }
+    ensures capacity { vec_capacity counts.new ≡ vec_capacity counts.old }
 {
-    let Some(last) = runs.pop() else {
-        runs.push_reserved(next);
-        return;
-    };
-    let Some(run) = last.joined(next) else {
-        runs.push_reserved(last);
-        runs.push_reserved(next);
-        return;
-    };
-    runs.push_reserved(run);
+    counts.retain(|held| !(held.number == number && held.node == node));
 }
 
-// Adds picks. Where they go on with the last run, they take no place.
-fn keep_picks(runs: &mut Vec<PickRun>, next: PickRun)
-    requires { vec_len runs.old < vec_capacity runs.old }
-    ensures picks { (n : ℕ) → flat_map (pick_by n) runs.new.items ≡ flat_map (pick_by n) runs.old.items ++ pick_by n next }
-    ensures len { vec_len runs.new ≤ vec_len runs.old + 1 }
-    ensures capacity { vec_capacity runs.new ≡ vec_capacity runs.old }
+// How many pops were taken at a node under a number. It looks from the back, where the last draw's node stands.
+fn count_at(counts: &[NodeCount], number: u64, node: u32) -> u64
+    ensures { result ≡ last_count number node 0 counts.now }
 {
-    let Some(last) = runs.pop() else {
-        runs.push_reserved(next);
-        return;
-    };
-    let Some(run) = last.joined(next) else {
-        runs.push_reserved(last);
-        runs.push_reserved(next);
-        return;
-    };
-    runs.push_reserved(run);
-}
-
-// Where the last pick of this number at the node ends. It looks from the back, where that pick mostly stands, so that a
-// draw takes no longer the more were made.
-fn count_at(runs: &[PickRun], number: u64, node: u32) -> u64
-    ensures { result ≡ last_end node 0 (flat_map (pick_by number) runs.now) }
-{
-    let mut rest = runs;
-    'runs: while let Some((last, before)) = rest.split_last() {
+    let mut rest = counts;
+    'counts: while let Some((last, before)) = rest.split_last() {
         if is_at(last, number, node) {
-            return last.to;
+            return last.pops;
         }
         rest = before;
     }
     0
 }
 
-fn is_at(run: &PickRun, number: u64, node: u32) -> bool
-    ensures { result ≡ ((run.now.number == number) && (run.now.node == node)) }
+fn is_at(count: &NodeCount, number: u64, node: u32) -> bool
+    ensures { result ≡ is_count count.now number node }
 {
-    run.number == number && run.node == node
+    count.number == number && count.node == node
 }

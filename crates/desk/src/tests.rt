@@ -50,17 +50,17 @@ fn expected(number: u64, from: u64, to: u64) -> Met {
     }
 }
 
-// How many requests at one node were pinned, and the places that they take for looks and for picks.
+// How many requests at two nodes were pinned, and the numbers and counts that the desk keeps of them.
 fn steady<R: Wait>(rt: &R, alloc: Global) -> Result<(u64, usize, usize), Memory> {
     let mut desk = OneDesk::new(alloc, numbered(alloc, 4)?)?;
-    for _ in 0..9 {
-        request(rt, &mut desk, 3)?;
+    for at in 0..9u32 {
+        request(rt, &mut desk, at % 2)?;
     }
     let seats = &desk.seats;
     Ok((
         desk.timeline.newest.pins,
-        seats.looks.len(),
-        seats.picks.len(),
+        seats.numbers.len(),
+        seats.counts.len(),
     ))
 }
 
@@ -89,6 +89,6 @@ fn one_desk(rt: HostRuntime) -> Result<(), Fail> {
         expected(1, 0, 1),
     ];
     assert_eq!(rt; by_turns(&rt, &mut desk)?, wanted);
-    assert_eq!(rt; steady(&rt, alloc)?, (9, 1, 1));
+    assert_eq!(rt; steady(&rt, alloc)?, (9, 1, 2));
     Ok(())
 }

@@ -33,7 +33,7 @@ same_bytes text more s within =
     let fits : s.end - s.start ≤ length (drop s.start text) = omega (arith, within.0, within.1, length-drop s.start text) in
     ap (take (s.end - s.start)) from ∙ take-append-le (s.end - s.start) (drop s.start text) more fits
 
-same_field : (text more : List ℕ) (h : HeaderSpan) → IsHeaderWithin (length text) h → header_bytes (text ++ more) h ≡ header_bytes text h
+pub same_field : (text more : List ℕ) (h : HeaderSpan) → IsHeaderWithin (length text) h → header_bytes (text ++ more) h ≡ header_bytes text h
 same_field text more h within =
     let name : span_bytes (text ++ more) h.name ≡ span_bytes text h.name = same_bytes text more h.name within.0 in
     let value : span_bytes (text ++ more) h.value ≡ span_bytes text h.value = same_bytes text more h.value within.1 in
@@ -57,14 +57,14 @@ at_place front mid back from to f t =
 from_name : (name value : List ℕ) → field_text name value ≡ name ++ (codes ": " ++ (value ++ crlf))
 from_name name value = append_assoc (name ++ codes ": ") value crlf ∙ append_assoc name (codes ": ") (value ++ crlf)
 
-name_there : (text name value : List ℕ) → span_bytes (text ++ field_text name value) (span_at (length text) (length name) (length value)).name ≡ name
+pub name_there : (text name value : List ℕ) → span_bytes (text ++ field_text name value) (span_at (length text) (length name) (length value)).name ≡ name
 name_there text name value =
     let rest : List ℕ = codes ": " ++ (value ++ crlf) in
     let shape : text ++ field_text name value ≡ text ++ name ++ rest = ap (λ (x : List ℕ). text ++ x) (from_name name value) ∙ sym (append_assoc text name rest) in
     ap (λ (x : List ℕ). slice_range x (length text) (length text + length name)) shape
     ∙ at_place text name rest (length text) (length text + length name) refl refl
 
-value_there : (text name value : List ℕ) → span_bytes (text ++ field_text name value) (span_at (length text) (length name) (length value)).value ≡ value
+pub value_there : (text name value : List ℕ) → span_bytes (text ++ field_text name value) (span_at (length text) (length name) (length value)).value ≡ value
 value_there text name value =
     let front : List ℕ = text ++ (name ++ codes ": ") in
     let n : length front ≡ length text + length name + 2 = omega (arith, length-append text (name ++ codes ": "), length-append name (codes ": ")) in
@@ -73,16 +73,16 @@ value_there text name value =
     ap (λ (x : List ℕ). slice_range x (length text + length name + 2) (length text + length name + 2 + length value)) shape
     ∙ at_place front value crlf (length text + length name + 2) (length text + length name + 2 + length value) (sym n) (ap (λ (x : ℕ). x + length value) (sym n))
 
-field_length : (name value : List ℕ) → length (field_text name value) ≡ length name + 2 + length value + 2
+pub field_length : (name value : List ℕ) → length (field_text name value) ≡ length name + 2 + length value + 2
 field_length name value =
     omega (arith, length-append (name ++ codes ": " ++ value) crlf, length-append (name ++ codes ": ") value, length-append name (codes ": "))
 
-more_room : (text more : List ℕ) (h : HeaderSpan) → IsHeaderWithin (length text) h → IsHeaderWithin (length (text ++ more)) h
+pub more_room : (text more : List ℕ) (h : HeaderSpan) → IsHeaderWithin (length text) h → IsHeaderWithin (length (text ++ more)) h
 more_room text more h within =
     let n : length (text ++ more) ≡ length text + length more = length-append text more in
     ((within.0.0, omega (arith, within.0.1, n)), (within.1.0, omega (arith, within.1.1, n)))
 
-there_within : (text name value : List ℕ) → IsHeaderWithin (length (text ++ field_text name value)) (span_at (length text) (length name) (length value))
+pub there_within : (text name value : List ℕ) → IsHeaderWithin (length (text ++ field_text name value)) (span_at (length text) (length name) (length value))
 there_within text name value =
     let n : length (text ++ field_text name value) ≡ length text + length (field_text name value) = length-append text (field_text name value) in
     let m : length (field_text name value) ≡ length name + 2 + length value + 2 = field_length name value in

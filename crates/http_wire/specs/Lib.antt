@@ -1,5 +1,7 @@
+pub mod Edits
 pub mod Fields
 pub mod Framing
+pub mod Laid
 pub mod Lines
 pub mod Own
 pub mod Replies

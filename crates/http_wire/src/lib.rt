@@ -17,4 +17,4 @@ pub use own::{own_content, own_reply};
 pub use replies::{ReplyFault, ReplyRefused, is_interim_status, take_reply};
 pub use requests::{HeadFault, RequestRefused, take_request};
 pub use spell::{request_head, spell_reply, spell_request};
-pub use targets::host_of_rules;
+pub use targets::{host_of_rules, without_port};

@@ -5,6 +5,8 @@ ghost use Rattle.httparse.specs.Spans.{IsHeaderWithin, header_bytes, span_bytes}
 ghost use Rattle.head_view.specs.Lines.{lines_at};
 ghost use Rattle.http_wire.specs.Lines.{AreSpelled, Keeps, crlf, field_text, fields_text, span_at};
 
+mod edits;
+
 use httparse::spans::{HeaderSpan, Span};
 use px_base::Memory;
 use std::alloc::{AllocError, Global};

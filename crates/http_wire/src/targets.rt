@@ -136,7 +136,8 @@ pub fn host_of_rules(host: &[u8]) -> &[u8]
     without_last_dot(without_port(host))
 }
 
-fn without_port(host: &[u8]) -> &[u8]
+/// A host text without its port: without a last `:` that digits alone or nothing follow.
+pub fn without_port(host: &[u8]) -> &[u8]
     ensures { result.now ≡ text_without_port host.now }
 {
     let digits = digits_at_end(host);

@@ -4,3 +4,4 @@ pub mod Books
 pub mod Fetches
 pub mod Told
 pub mod Logs
+pub mod Scripts

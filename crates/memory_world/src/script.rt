@@ -1,6 +1,7 @@
 //! What comes to a world in memory, in order.
-ghost use Rattle.std.specs.Prelude.{◌≤◌, length};
+ghost use Rattle.std.specs.Prelude.{◌≡◌, ◌≤◌, length, IfOk};
 ghost use Rattle.memory_world.specs.Fetches.{IsWithin};
+ghost use Rattle.memory_world.specs.Scripts.{IsScriptOf, item_of as as_item};
 
 use link_world::Arrival;
 use px_base::{Bytes, Memory};
@@ -46,11 +47,10 @@ pub(crate) struct Script {
 }
 
 impl Script {
-    pub fn new(alloc: Global, steps: Vec<Given>) -> Result<Script, Memory> {
-        let mut items = Vec::new(alloc);
-        for given in steps {
-            items.push(item_of(given))?;
-        }
+    pub fn new(alloc: Global, steps: Vec<Given>) -> Result<Script, Memory>
+        ensures { IfOk result (IsScriptOf steps.items) }
+    {
+        let items = steps.into_iter().map(item_of).collect(alloc)?;
         Ok(Script {
             items,
             released: 0,
@@ -160,7 +160,9 @@ impl Script {
     }
 }
 
-fn item_of(given: Given) -> Item {
+fn item_of(given: Given) -> Item
+    ensures { result ≡ as_item given }
+{
     match given {
         Given::Arrive(arrival) => Item::Arrive(arrival),
         Given::Bytes { link, bytes } => Item::Bytes { link, bytes, at: 0 },

@@ -1,8 +1,9 @@
 //! The world in memory: what its calls do.
-ghost use Rattle.std.specs.Prelude.{◌≡◌, ◌<◌, length, true};
+ghost use Rattle.std.specs.Prelude.{◌≡◌, ◌<◌, length, true, IfOk};
 ghost use Rattle.px_base.specs.Bytes.{one_more};
 ghost use Rattle.px_base.specs.Memory.{is_listed};
 ghost use Rattle.memory_world.specs.Logs.{is_open};
+ghost use Rattle.memory_world.specs.Scripts.{Begins};
 
 use crate::book::Book;
 use crate::mark::Mark;
@@ -53,7 +54,9 @@ impl MemoryWorld {
     /// after the greatest link that arrives. Each wait lets come the steps up to and with the next
     /// clock, or all that are left, and fails where none is left. The clock answers 0 until one came.
     /// Of the calls of `dial`, `read`, `write` and `wait`, counted together from 1, those listed fail.
-    pub fn new(alloc: Global, steps: Vec<Given>, failing: Vec<u64>) -> Result<MemoryWorld, Memory> {
+    pub fn new(alloc: Global, steps: Vec<Given>, failing: Vec<u64>) -> Result<MemoryWorld, Memory>
+        ensures { IfOk result (Begins steps.items failing.items) }
+    {
         let script = Script::new(alloc, steps)?;
         let next_dial = script.first_dial();
         Ok(MemoryWorld {

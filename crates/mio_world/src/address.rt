@@ -1,10 +1,15 @@
 //! Addresses of sockets, and the addresses of this project.
+ghost use Rattle.std.specs.Net.Socket.{socket_ip};
+ghost use Rattle.mio_world.specs.Addresses.{IsPeer};
+
 use ip_net::{Ip, read_ip};
 use std::net::{IpAddr, Ipv4Addr, Ipv6Addr, Net, SocketAddr, ToSocketAddrs};
 use std::str;
 
 /// The address of a peer. A mapped address is the IPv4 address in it.
-pub(crate) fn ip_of(from: SocketAddr) -> Ip {
+pub(crate) fn ip_of(from: SocketAddr) -> Ip
+    ensures { IsPeer (socket_ip from) result }
+{
     match from.ip().to_canonical() {
         IpAddr::V4(ip) => Ip::V4(ip.to_bits()),
         IpAddr::V6(ip) => Ip::V6(ip.to_bits()),

@@ -3,6 +3,7 @@
 
 mod access;
 mod address;
+mod notes;
 mod slot;
 mod sockets;
 mod table;

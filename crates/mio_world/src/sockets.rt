@@ -1,5 +1,7 @@
 //! The sockets behind the places of links, and how ready each is. No contract speaks of what they carry.
-ghost use Rattle.std.specs.Prelude.{◌<◌, length};
+ghost use Rattle.std.specs.Prelude.{◌≡◌, ◌<◌, length};
+ghost use Rattle.std.specs.Net.Socket.{socket_ip};
+ghost use Rattle.mio_world.specs.Addresses.{IsPeer};
 ghost use Rattle.mio_world.specs.Fits.{FitsRead, FitsWrite};
 
 use crate::address::{address_of, ip_of, socket_addr};
@@ -408,6 +410,18 @@ impl Sockets {
     }
 }
 
+// The client behind a stream that was accepted from this address, at the listener of this entry point.
+fn client_of(stream: TcpStream, from: SocketAddr, entry: Bytes) -> Client
+    ensures entry { result.entry ≡ entry }
+    ensures peer { IsPeer (socket_ip from) result.peer }
+{
+    Client {
+        stream,
+        entry,
+        peer: ip_of(from),
+    }
+}
+
 // A client that stands at this listener.
 fn accept(alloc: Global, door: &mut Door) -> Result<Option<Client>, Memory> {
     if !door.ready {
@@ -415,11 +429,7 @@ fn accept(alloc: Global, door: &mut Door) -> Result<Option<Client>, Memory> {
     }
     let entry = Bytes::from_slice(alloc, door.entry.as_slice())?;
     match door.listener.accept() {
-        Ok((stream, from)) => Ok(Some(Client {
-            stream,
-            entry,
-            peer: ip_of(from),
-        })),
+        Ok((stream, from)) => Ok(Some(client_of(stream, from, entry))),
         Err(e) => {
             if e.kind() == ErrorKind::WouldBlock {
                 door.ready = false;

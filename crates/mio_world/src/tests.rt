@@ -1,10 +1,13 @@
 //! A world of sockets that dials itself.
+use crate::address::ip_of;
 use crate::{Access, BindFault, MioWorld};
 use ip_net::Ip;
-use link_world::{Cause, LinkRead, LinkWrite, Listen, Note, NoteBody, RequestNote, World};
+use link_world::{
+    Cause, EndCause, LinkRead, LinkWrite, Listen, Note, NoteBody, RequestNote, World,
+};
 use px_base::{Bytes, List, MemorySink};
 use std::alloc::Global;
-use std::net::Net;
+use std::net::{Ipv4Addr, Ipv6Addr, Net, SocketAddr};
 use std::process::Abort;
 use std::sync::Wait;
 use std::test::Fail;
@@ -137,4 +140,38 @@ fn dials_itself(rt: HostRuntime) -> Result<(), Fail> {
     };
     assert!(rt; fault == BindFault::Bind { listen: 0 });
     Ok(())
+}
+
+// A world whose access file couldn't be opened.
+fn refusing<N: Net + Clock + Drop, R: Abort + Wait>(rt: &R, world: &mut MioWorld<N, MemorySink>) {
+    let until = world.now();
+    assert!(rt; world.wait(rt, until).is_ok());
+    let end = Note {
+        link: 0,
+        body: NoteBody::End(EndCause::Client),
+    };
+    assert!(rt; world.note(end).is_ok());
+    assert!(rt; world.has_refused());
+    assert!(rt; !world.stop_asked());
+    assert!(rt; world.wait(rt, until).is_err());
+}
+
+#[test]
+fn a_refused_note_fails_the_next_wait(rt: HostRuntime) -> Result<(), Fail> {
+    let alloc = rt.alloc();
+    let Ok(mut world) = MioWorld::bind(rt, alloc, &[], Access::Refused, Some(0)) else {
+        panic!(rt; "there is no poll");
+    };
+    refusing(&rt, &mut world);
+    Ok(())
+}
+
+#[test]
+fn peers(rt: HostRuntime) {
+    let four = Ipv4Addr::new(10, 1, 2, 3);
+    let mapped = Ipv6Addr::new(0, 0, 0, 0, 0, 0xffff, 0x0a01, 0x0203);
+    let six = Ipv6Addr::new(0, 0, 0, 0, 0, 0, 0, 1);
+    assert!(rt; ip_of(SocketAddr::from((four, 9))) == Ip::V4(0x0a01_0203));
+    assert!(rt; ip_of(SocketAddr::from((mapped, 9))) == Ip::V4(0x0a01_0203));
+    assert!(rt; ip_of(SocketAddr::from((six, 9))) == Ip::V6(1));
 }

@@ -1,12 +1,17 @@
 //! The world of real sockets: what its calls answer follows the meanings of `World`, and what the
 //! sockets carry is the system's.
-ghost use Rattle.std.specs.Prelude.{◌≡◌, ◌≤◌, IfOk};
-ghost use Rattle.mio_world.specs.Slots.{meaning, seen_of, lately_of, new_seen, new_lately};
+ghost use Rattle.std.specs.Prelude.{◌≡◌, ◌≤◌, ◌<◌, length, true, false, IfOk, OnOk, OnErr};
+ghost use Rattle.link_world.specs.Lately.{OnlyAt, WaitLately, ArrivalLately, DialLately, ReadLately, WriteLately};
+ghost use Rattle.link_world.specs.Seen.{WaitDid, NowDid, ArrivalDid, DialDid, ReadDid, WriteDid, CloseDid, NoteDid, StopDid};
+ghost use Rattle.mio_world.specs.Notes.{TakeDid, first_notes, is_due as is_stop_due};
+ghost use Rattle.mio_world.specs.Slots.{meaning, new_seen, new_lately};
+ghost use Rattle.mio_world.specs.Worlds.{seen_in, lately_in};
 
 use crate::access::Access;
+use crate::notes::Notes;
 use crate::sockets::Sockets;
 use crate::table::{Table, place};
-use link_world::{Arrival, LinkRead, LinkWrite, Listen, Note, NoteBody, WaitFailed, World};
+use link_world::{Arrival, LinkRead, LinkWrite, Listen, Note, WaitFailed, World};
 use px_base::{Memory, Sink};
 use std::alloc::{AllocError, Global};
 use std::io;
@@ -35,16 +40,12 @@ pub struct MioWorld<R: Net + Clock + Drop, K: Sink + Drop> {
     stops: u64,
     clocked: bool,
     no_more: bool,
-    access: Access<K>,
-    /// A note was refused.
-    refused: bool,
-    /// After so many noted requests a stop is asked for.
-    requests: Option<u64>,
-    noted: u64,
+    notes: Notes<K>,
 }
 
 impl<R: Net + Clock + Drop, K: Sink + Drop> MioWorld<R, K> {
-    /// Binds the listeners. Nothing has happened in the world then.
+    /// Binds the listeners. Nothing has happened in the world then. Notes go to `access`, and a stop is asked for with the note of
+    /// the request with the number `requests`, from 1.
     pub fn bind(
         rt: R,
         alloc: Global,
@@ -52,8 +53,9 @@ impl<R: Net + Clock + Drop, K: Sink + Drop> MioWorld<R, K> {
         access: Access<K>,
         requests: Option<u64>,
     ) -> Result<MioWorld<R, K>, BindFault>
-        ensures seen { IfOk result (λ w. seen_of w.clock w.waits_failed w.stops w.table ≡ new_seen) }
-        ensures lately { IfOk result (λ w. lately_of w.clocked w.no_more w.table ≡ new_lately) }
+        ensures seen { IfOk result (λ w. seen_in w ≡ new_seen) }
+        ensures lately { IfOk result (λ w. lately_in w ≡ new_lately) }
+        ensures notes { IfOk result (λ w. w.notes ≡ first_notes access requests) }
     {
         let table = match Table::new(alloc) {
             Ok(table) => table,
@@ -72,6 +74,7 @@ impl<R: Net + Clock + Drop, K: Sink + Drop> MioWorld<R, K> {
             Ok(start) => start,
             Err(e) => return Err(fault_of(e, 0)),
         };
+        let notes = Notes::new(access, requests);
         Ok(MioWorld {
             rt,
             alloc,
@@ -83,11 +86,15 @@ impl<R: Net + Clock + Drop, K: Sink + Drop> MioWorld<R, K> {
             stops: 0,
             clocked: false,
             no_more: false,
-            access,
-            refused: false,
-            requests,
-            noted: 0,
+            notes,
         })
+    }
+
+    /// Whether a note was refused.
+    pub fn has_refused(&self) -> bool
+        ensures { result ≡ self.now.notes.refused }
+    {
+        self.notes.has_refused()
     }
 
     /// Whether the link was given and isn't closed.
@@ -118,14 +125,21 @@ fn read_clock<R: Clock>(rt: &R, start: Instant, last: u64) -> u64
 }
 
 impl<R: Net + Clock + Drop, K: Sink + Drop> World for MioWorld<R, K> {
-    ghost use Rattle.mio_world.specs.Slots.{seen_of, lately_of};
+    ghost use Rattle.mio_world.specs.Worlds.{seen_in, lately_in};
 
-    ghost seen = { λ w. seen_of w.clock w.waits_failed w.stops w.table };
+    ghost seen = { λ w. seen_in w };
 
-    ghost lately = { λ w. lately_of w.clocked w.no_more w.table };
+    ghost lately = { λ w. lately_in w };
 
-    fn wait<W: Wait>(&mut self, _rt: &W, until: u64) -> Result<(), WaitFailed> {
-        if self.refused || self.table.waits() == u64::MAX {
+    fn wait<W: Wait>(&mut self, _rt: &W, until: u64) -> Result<(), WaitFailed>
+        ensures seen { WaitDid (seen_in self.old) result (seen_in self.new) }
+        ensures lately { WaitLately (seen_in self.old).is_open (lately_in self.old) result (lately_in self.new) }
+
+        // After a note was refused each wait fails.
+        ensures taken { OnOk result (self.old.notes.refused ≡ false) }
+        ensures notes { self.new.notes ≡ self.old.notes }
+    {
+        if self.notes.has_refused() || self.table.waits() == u64::MAX {
             self.waits_failed = self.waits_failed.saturating_add(1);
             return Err(WaitFailed);
         }
@@ -139,14 +153,22 @@ impl<R: Net + Clock + Drop, K: Sink + Drop> World for MioWorld<R, K> {
         Ok(())
     }
 
-    fn now(&mut self) -> u64 {
+    fn now(&mut self) -> u64
+        ensures seen { NowDid (seen_in self.old) result (seen_in self.new) }
+        ensures lately { lately_in self.new ≡ record (lately_in self.old) { clocked = true } }
+        ensures notes { self.new.notes ≡ self.old.notes }
+    {
         let now = read_clock(&self.rt, self.start, self.clock);
         self.clocked = true;
         self.clock = now;
         now
     }
 
-    fn arrival(&mut self) -> Result<Option<Arrival>, Memory> {
+    fn arrival(&mut self) -> Result<Option<Arrival>, Memory>
+        ensures seen { ArrivalDid (seen_in self.old) result (seen_in self.new) }
+        ensures lately { ArrivalLately (lately_in self.old) result (lately_in self.new) }
+        ensures notes { self.new.notes ≡ self.old.notes }
+    {
         self.no_more = false;
         let Some(at) = self.sockets.next_place() else {
             self.no_more = true;
@@ -168,7 +190,11 @@ impl<R: Net + Clock + Drop, K: Sink + Drop> World for MioWorld<R, K> {
         }))
     }
 
-    fn dial(&mut self, host: &[u8], port: u16) -> Result<u32, Memory> {
+    fn dial(&mut self, host: &[u8], port: u16) -> Result<u32, Memory>
+        ensures seen { DialDid (seen_in self.old) host.now port result (seen_in self.new) }
+        ensures lately { DialLately (lately_in self.old) result (lately_in self.new) }
+        ensures notes { self.new.notes ≡ self.old.notes }
+    {
         let Some(at) = self.sockets.next_place() else {
             return Err(AllocError);
         };
@@ -180,7 +206,13 @@ impl<R: Net + Clock + Drop, K: Sink + Drop> World for MioWorld<R, K> {
         Ok(link)
     }
 
-    fn read(&mut self, link: u32, room: &mut [u8]) -> LinkRead {
+    fn read(&mut self, link: u32, room: &mut [u8]) -> LinkRead
+        requires given { (seen_in self.old).is_open link ≡ true }
+        requires room { 0 < length room.old }
+        ensures seen { ReadDid (seen_in self.old) link result room.new (seen_in self.new) }
+        ensures lately { ReadLately (lately_in self.old) link result (lately_in self.new) }
+        ensures notes { self.new.notes ≡ self.old.notes }
+    {
         let at = place(link);
         if !self.sockets.is_readable(at) {
             self.table.did_read(link, LinkRead::NotYet);
@@ -192,36 +224,49 @@ impl<R: Net + Clock + Drop, K: Sink + Drop> World for MioWorld<R, K> {
         answer
     }
 
-    fn write(&mut self, link: u32, piece: &[u8]) -> LinkWrite {
+    fn write(&mut self, link: u32, piece: &[u8]) -> LinkWrite
+        requires given { (seen_in self.old).is_open link ≡ true }
+        requires piece { 0 < length piece.now }
+        ensures seen { WriteDid (seen_in self.old) link piece.now result (seen_in self.new) }
+        ensures lately { WriteLately (lately_in self.old) link result (lately_in self.new) }
+        ensures notes { self.new.notes ≡ self.old.notes }
+    {
         let answer = self.sockets.write(&self.rt, place(link), piece);
         self.table.did_write(link, answer);
         answer
     }
 
-    fn close(&mut self, link: u32) {
+    fn close(&mut self, link: u32)
+        ensures seen { CloseDid (seen_in self.old) link (seen_in self.new) }
+        ensures lately { OnlyAt link (lately_in self.old) (lately_in self.new) }
+        ensures notes { self.new.notes ≡ self.old.notes }
+    {
         if self.table.is_open(link) {
             self.table.close(link);
             self.sockets.let_go(place(link), self.clock);
         }
     }
 
-    fn note(&mut self, note: Note) -> Result<(), Memory> {
-        if let NoteBody::Request(_) = &note.body {
-            self.noted = self.noted.saturating_add(1);
-        }
-        if !self.access.take(self.alloc, &note) {
-            self.refused = true;
-            self.waits_failed = self.waits_failed.saturating_add(1);
-            return Err(AllocError);
-        }
-        Ok(())
+    fn note(&mut self, note: Note) -> Result<(), Memory>
+        ensures seen { NoteDid (seen_in self.old) note result (seen_in self.new) }
+        ensures lately { lately_in self.new ≡ lately_in self.old }
+
+        // It is written and counted; or it is refused, as each one after it, and the next wait fails.
+        ensures taken { OnOk result (TakeDid K.held K.faults self.old.notes note self.new.notes) }
+        ensures same { OnErr result (self.new.notes ≡ self.old.notes) }
+    {
+        self.notes.take(self.alloc, &note)
     }
 
-    fn stop_asked(&mut self) -> bool {
-        let Some(requests) = self.requests else {
-            return false;
-        };
-        if self.noted < requests {
+    fn stop_asked(&mut self) -> bool
+        ensures seen { StopDid (seen_in self.old) result (seen_in self.new) }
+        ensures lately { lately_in self.new ≡ lately_in self.old }
+
+        // Exactly once so many requests were noted, unless a note was refused.
+        ensures due { result ≡ is_stop_due self.old.notes }
+        ensures notes { self.new.notes ≡ self.old.notes }
+    {
+        if !self.notes.is_due() {
             return false;
         }
         self.stops = self.stops.saturating_add(1);

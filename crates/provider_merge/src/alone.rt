@@ -21,7 +21,8 @@ pub fn declares_nothing(config: &Config) -> bool
     config.routers.is_empty() && config.services.is_empty() && config.middlewares.is_empty()
 }
 
-fn empty_config(alloc: Global) -> Config
+/// The configuration that declares nothing.
+pub(crate) fn empty_config(alloc: Global) -> Config
     ensures { DeclaresNothing result }
 {
     Config {

@@ -1,5 +1,5 @@
 -- The rows of a table.
-use Rattle.std.specs.Prelude.{◌≡◌, ℕ, zero, ◌-◌, ◌⊎◌, ℤ, pos, Bool, true, false, List, [], ◌∷◌, length, Option, Some, None, ⊤}
+use Rattle.std.specs.Prelude.{◌≡◌, ℕ, zero, ◌+◌, ◌-◌, ◌^◌, ◌≤◌, ◌⊎◌, min, ℤ, pos, Bool, true, false, List, [], ◌∷◌, length, count_by, Option, Some, None, ⊤}
 use Rattle.rule_lang.specs.Trees.{Tree}
 use Rattle.rule_eval.specs.Calls.{pattern_count}
 use Rattle.rule_eval.specs.Rules.{compiled_rule}
@@ -68,3 +68,7 @@ AreRows s left (e ∷ es) (row ∷ rows) = IsRow s left e row × ((after : ℕ) 
 abbrev pub is_refused : RouterState → Bool
 is_refused (Disabled (fault.Compile (compile_fault.TooBig n))) = true
 is_refused _ = false
+
+-- the shop, which counted `old` refusals before and `new` after, refused a pattern for each router that is disabled for that
+abbrev pub Refuses : ℕ → ℕ → List Row → Type 0
+Refuses old new rows = min (old + count_by (λ (row : Row). is_refused row.state) rows) (2 ^ 64 - 1) ≤ new

@@ -1,12 +1,12 @@
 -- The first call at fault, as a rule is compiled part by part.
-use Rattle.std.proofs.Common.{◌≡◌, ℕ, ◌+◌, ◌-◌, ◌^◌, ◌≤◌, min, List, [], ◌∷◌, ◌++◌, length, true, refl, sym, ap, ◌∙◌, subst, append_assoc, length-append, arith, ap₂, Result, Ok, Err, OnOk, IfErr, IsErrAnd}
+use Rattle.std.proofs.Common.{◌≡◌, ℕ, ◌+◌, ◌-◌, ◌^◌, min, List, [], ◌∷◌, ◌++◌, length, true, refl, sym, ap, ◌∙◌, subst, append_assoc, length-append, arith, ap₂, Result, Ok, Err, OnOk, IfErr, IsErrAnd}
 use Rattle.rule_lang.specs.declared.matcher.Matcher.{Matcher}
 use Rattle.rule_lang.specs.declared.matcher.Matcher.TheVariants.{Header, HeaderRegexp, Host, HostRegexp, Method, Path, PathPrefix, PathRegexp, Query, QueryRegexp, ClientIp}
 use Rattle.rule_lang.specs.declared.rule.Rule.{Rule, fold-roll-Rule}
 use Rattle.rule_lang.specs.declared.rule.Rule.TheOpen.{Rule-F}
 use Rattle.rule_lang.specs.declared.rule.Rule.TheVariants.{And, Or, rolls-And, rolls-Or}
 use Rattle.rule_lang.specs.Trees.{Tree, both, either, tree_step, tree_of}
-use Rattle.px_base.specs.Bytes.{Rose}
+use Rattle.px_base.specs.Bytes.{one_more}
 use Rattle.rule_eval.specs.Patterns.{IsPatternText}
 use Rattle.rule_eval.specs.Calls.{Call, calls_of, has_pattern}
 use Rattle.rule_eval.specs.Faults.{IsBadAddress, IsBadPattern, IsGoodPattern, IsSoundBy, AreSound, number_after, IsFirst, Tells, Blames, BlamesText, BlamesAddress}
@@ -28,22 +28,19 @@ first_more F xs ys n f = record {
   number_is = f.number_is;
 }
 
-pub rose_before : (old mid new : ℕ) → old ≤ mid → Rose mid new → Rose old new
-rose_before old mid new below rose = omega (arith, below, rose)
-
 -- more calls to the right change nothing
 pub tells_more : (xs ys : List Call) (old new : ℕ) (f : CompileFault) → Tells xs old new f → Tells (xs ++ ys) old new f
-tells_more xs ys old new (Address n) t = first_more _ xs ys n t
-tells_more xs ys old new (Syntax n) t = first_more _ xs ys n t
+tells_more xs ys old new (Address n) t = (first_more _ xs ys n t.0, t.1)
+tells_more xs ys old new (Syntax n) t = (first_more _ xs ys n t.0, t.1)
 tells_more xs ys old new (TooBig n) t = (first_more _ xs ys n t.0, t.1)
 tells_more xs ys old new Memory t = tt
 
 -- what is told of a part, after its left side was compiled
-pub tells_after : (left done right : List Call) (old mid new : ℕ) (f : CompileFault) → old ≤ mid → Tells ((left ++ done) ++ right) mid new f → Tells (left ++ (done ++ right)) old new f
-tells_after left done right old mid new (Address n) below t = subst (λ (l : List Call). IsFirst IsBadAddress l n) (append_assoc left done right) t
-tells_after left done right old mid new (Syntax n) below t = subst (λ (l : List Call). IsFirst IsBadPattern l n) (append_assoc left done right) t
-tells_after left done right old mid new (TooBig n) below t = (subst (λ (l : List Call). IsFirst IsGoodPattern l n) (append_assoc left done right) t.0, rose_before old mid new below t.1)
-tells_after left done right old mid new Memory below t = tt
+pub tells_after : (left done right : List Call) (old mid new : ℕ) (f : CompileFault) → mid ≡ old → Tells ((left ++ done) ++ right) mid new f → Tells (left ++ (done ++ right)) old new f
+tells_after left done right old mid new (Address n) still t = (subst (λ (l : List Call). IsFirst IsBadAddress l n) (append_assoc left done right) t.0, t.1 ∙ still)
+tells_after left done right old mid new (Syntax n) still t = (subst (λ (l : List Call). IsFirst IsBadPattern l n) (append_assoc left done right) t.0, t.1 ∙ still)
+tells_after left done right old mid new (TooBig n) still t = (subst (λ (l : List Call). IsFirst IsGoodPattern l n) (append_assoc left done right) t.0, t.1 ∙ ap one_more still)
+tells_after left done right old mid new Memory still t = tt
 
 pub tells_before : (left done right : List Call) (old new : ℕ) (f : CompileFault) → Tells (left ++ done) old new f → Tells (left ++ (done ++ right)) old new f
 tells_before left done right old new f t =
@@ -51,8 +48,8 @@ tells_before left done right old new f t =
 
 -- what is told of one call
 pub blamed : (left : List Call) (c : Call) (at old new : ℕ) (f : CompileFault) → AreSound left → at ≡ number_after left → Blames c at old new f → Tells (left ++ c ∷ []) old new f
-blamed left c at old new (Address n) sound e b = record { before = left; at = c; after = []; calls_are = refl; sound = sound; fault = b.1; number_is = b.0 ∙ e }
-blamed left c at old new (Syntax n) sound e b = record { before = left; at = c; after = []; calls_are = refl; sound = sound; fault = b.1; number_is = b.0 ∙ e }
+blamed left c at old new (Address n) sound e b = (record { before = left; at = c; after = []; calls_are = refl; sound = sound; fault = b.1; number_is = b.0 ∙ e }, b.2)
+blamed left c at old new (Syntax n) sound e b = (record { before = left; at = c; after = []; calls_are = refl; sound = sound; fault = b.1; number_is = b.0 ∙ e }, b.2)
 blamed left c at old new (TooBig n) sound e b = (record { before = left; at = c; after = []; calls_are = refl; sound = sound; fault = b.1; number_is = b.0 ∙ e }, b.2)
 blamed left c at old new Memory sound e b = tt
 
@@ -75,15 +72,15 @@ sound_pattern ClientIp value e p = absurd cc
 
 pub blames_pattern : (c : Call) (at old new : ℕ) (f : CompileFault) → has_pattern c.matcher ≡ true → BlamesText c.value at old new f → Blames c at old new f
 blames_pattern c at old new (Address n) e b = absurd b
-blames_pattern c at old new (Syntax n) e b = (b.0, (e, b.1))
+blames_pattern c at old new (Syntax n) e b = (b.0, (e, b.1), b.2)
 blames_pattern c at old new (TooBig n) e b = (b.0, (e, b.1), b.2)
 blames_pattern c at old new Memory e b = tt
 
-pub blames_address : (c : Call) (at old new : ℕ) (f : CompileFault) → c.matcher ≡ ClientIp → BlamesAddress c.value at f → Blames c at old new f
-blames_address c at old new (Address n) e b = (b.0, (e, b.1))
-blames_address c at old new (Syntax n) e b = absurd b
-blames_address c at old new (TooBig n) e b = absurd b
-blames_address c at old new Memory e b = tt
+pub blames_address : (c : Call) (at old new : ℕ) (f : CompileFault) → c.matcher ≡ ClientIp → new ≡ old → BlamesAddress c.value at f → Blames c at old new f
+blames_address c at old new (Address n) e still b = (b.0, (e, b.1), still)
+blames_address c at old new (Syntax n) e still b = absurd b
+blames_address c at old new (TooBig n) e still b = absurd b
+blames_address c at old new Memory e still b = tt
 
 pub on_ok : {A E : Type 0} (P : Type 0) → (r : Result A E) → P → OnOk r P
 on_ok P (Ok x) p = p
@@ -113,11 +110,11 @@ calls_or rule l r a b e ea eb =
 pub tells_left : (all left l r : List Call) (old new : ℕ) (f : CompileFault) → all ≡ l ++ r → Tells (left ++ l) old new f → Tells (left ++ all) old new f
 tells_left all left l r old new f e t = subst (λ (x : List Call). Tells (left ++ x) old new f) (sym e) (tells_before left l r old new f t)
 
-pub tells_right : (all left l r : List Call) (at next old mid new : ℕ) (f : CompileFault) → all ≡ l ++ r → AreSound left → AreSound l → at ≡ number_after left → next ≡ min (at + length l) (2 ^ 32 - 1) → old ≤ mid
+pub tells_right : (all left l r : List Call) (at next old mid new : ℕ) (f : CompileFault) → all ≡ l ++ r → AreSound left → AreSound l → at ≡ number_after left → next ≡ min (at + length l) (2 ^ 32 - 1) → mid ≡ old
     → ((before : List Call) → AreSound before → next ≡ number_after before → Tells (before ++ r) mid new f) → Tells (left ++ all) old new f
-tells_right all left l r at next old mid new f e sound done here number below told =
+tells_right all left l r at next old mid new f e sound done here number still told =
     subst (λ (x : List Call). Tells (left ++ x) old new f) (sym e)
-    (tells_after left l r old mid new f below (told (left ++ l) (sound_append left l sound done) (number_next left l at next here number)))
+    (tells_after left l r old mid new f still (told (left ++ l) (sound_append left l sound done) (number_next left l at next here number)))
 
 pub sound_both : (all l r : List Call) → all ≡ l ++ r → AreSound l → AreSound r → AreSound all
 sound_both all l r e a b = subst (λ (x : List Call). AreSound x) (sym e) (sound_append l r a b)

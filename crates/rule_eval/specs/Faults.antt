@@ -6,7 +6,7 @@ use Rattle.rule_lang.specs.declared.matcher.Matcher.TheVariants.{Header, HeaderR
 use Rattle.ip_net.specs.declared.ip.Ip.{Ip}
 use Rattle.rule_lang.specs.declared.rule.Leaf.{Leaf}
 use Rattle.ip_net.specs.Texts.{WritesNet}
-use Rattle.px_base.specs.Bytes.{Rose}
+use Rattle.px_base.specs.Bytes.{one_more}
 use Rattle.rule_eval.specs.Patterns.{IsPatternText}
 use Rattle.rule_eval.specs.Calls.{Call, has_pattern}
 use Rattle.rule_eval.specs.declared.compiling.CompileFault.{CompileFault}
@@ -63,11 +63,12 @@ pub record IsFirst (Fault : Call → Type 0) (calls : List Call) (number : ℕ) 
   pub fault : Fault at
   pub number_is : number ≡ number_after before
 
--- what a fault says of the calls, where the count of size refusals was `old` and is `new`
+-- what a fault says of the calls, where the count of size refusals was `old` and is `new`: no pattern to the left of the call
+-- was refused for its size
 abbrev pub Tells : List Call → ℕ → ℕ → CompileFault → Type 0
-Tells calls old new (Address n) = IsFirst IsBadAddress calls n
-Tells calls old new (Syntax n) = IsFirst IsBadPattern calls n
-Tells calls old new (TooBig n) = IsFirst IsGoodPattern calls n × Rose old new
+Tells calls old new (Address n) = IsFirst IsBadAddress calls n × (new ≡ old)
+Tells calls old new (Syntax n) = IsFirst IsBadPattern calls n × (new ≡ old)
+Tells calls old new (TooBig n) = IsFirst IsGoodPattern calls n × (new ≡ one_more old)
 Tells calls old new Memory = Unit {0}
 
 -- the call of a leaf
@@ -76,16 +77,16 @@ call_of l = record { matcher = l.matcher; key = l.key; value = l.value }
 
 -- what a fault says of the call with this number
 abbrev pub Blames : Call → ℕ → ℕ → ℕ → CompileFault → Type 0
-Blames c at old new (Address n) = (n ≡ at) × IsBadAddress c
-Blames c at old new (Syntax n) = (n ≡ at) × IsBadPattern c
-Blames c at old new (TooBig n) = (n ≡ at) × IsGoodPattern c × Rose old new
+Blames c at old new (Address n) = (n ≡ at) × IsBadAddress c × (new ≡ old)
+Blames c at old new (Syntax n) = (n ≡ at) × IsBadPattern c × (new ≡ old)
+Blames c at old new (TooBig n) = (n ≡ at) × IsGoodPattern c × (new ≡ one_more old)
 Blames c at old new Memory = Unit {0}
 
 -- what it says of the pattern there
 abbrev pub BlamesText : List ℕ → ℕ → ℕ → ℕ → CompileFault → Type 0
 BlamesText text at old new (Address n) = ⊥
-BlamesText text at old new (Syntax n) = (n ≡ at) × ¬ (IsPatternText text)
-BlamesText text at old new (TooBig n) = (n ≡ at) × IsPatternText text × Rose old new
+BlamesText text at old new (Syntax n) = (n ≡ at) × (¬ (IsPatternText text)) × (new ≡ old)
+BlamesText text at old new (TooBig n) = (n ≡ at) × IsPatternText text × (new ≡ one_more old)
 BlamesText text at old new Memory = Unit {0}
 
 -- what it says of the network there

@@ -4,6 +4,7 @@ pub mod Pairs
 pub mod Calls
 pub mod Truth
 pub mod Faults
+pub mod Counts
 pub mod Shops
 pub mod Checks
 pub mod Rules

@@ -37,7 +37,8 @@ pub enum CompileFault {
     Memory,
 }
 
-/// Compiles a rule: its patterns are built by the shop, from the left.
+/// Compiles a rule: its patterns are built by the shop, from the left. The fault is that of the first call from the left that has
+/// one: before it the shop refused none.
 pub fn compile<S: PatternShop>(
     alloc: Global,
     rule: &Rule,
@@ -46,6 +47,7 @@ pub fn compile<S: PatternShop>(
     ensures rule { IfOk result (λ c. compiled_rule c ≡ tree_of rule.now) }
     ensures sound { OnOk result (AreSound (calls_of (tree_of rule.now))) }
     ensures fault { IfErr result (Tells (calls_of (tree_of rule.now)) (S.refusals shop.old) (S.refusals shop.new)) }
+    ensures still { OnOk result (S.refusals shop.new ≡ S.refusals shop.old) }
     ensures later { S.refusals shop.old ≤ S.refusals shop.new }
 {
     let mut next = 0;
@@ -66,6 +68,7 @@ fn compile_part<S: PatternShop>(
     // Whatever calls stand to its left.
     ensures fault { IfErr result (λ f. (left : List Call) → AreSound left → next.old ≡ number_after left
         → Tells (left ++ calls_of (tree_of rule.now)) (S.refusals shop.old) (S.refusals shop.new) f) }
+    ensures still { OnOk result (S.refusals shop.new ≡ S.refusals shop.old) }
     ensures later { S.refusals shop.old ≤ S.refusals shop.new }
 {
     match rule {
@@ -122,6 +125,7 @@ fn compile_call<S: PatternShop>(
     ensures call { IfOk result (λ p. probe_call p ≡ call leaf.now.matcher leaf.now.key leaf.now.value) }
     ensures sound { OnOk result (IsSound (call_of leaf.now)) }
     ensures fault { IfErr result (Blames (call_of leaf.now) at (S.refusals shop.old) (S.refusals shop.new)) }
+    ensures still { OnOk result (S.refusals shop.new ≡ S.refusals shop.old) }
     ensures later { S.refusals shop.old ≤ S.refusals shop.new }
 {
     if has_pattern(leaf.matcher) {
@@ -212,6 +216,7 @@ fn search_of<S: PatternShop>(
     ensures search { IfOk result (λ s. (s.key ≡ leaf.now.key) × (pattern_text s.pattern ≡ leaf.now.value)) }
     ensures sound { OnOk result (IsSound (call_of leaf.now)) }
     ensures fault { IfErr result (Blames (call_of leaf.now) at (S.refusals shop.old) (S.refusals shop.new)) }
+    ensures still { OnOk result (S.refusals shop.new ≡ S.refusals shop.old) }
     ensures later { S.refusals shop.old ≤ S.refusals shop.new }
 {
     let pattern = pattern_of(leaf.value.as_slice(), at, shop)?;
@@ -224,6 +229,7 @@ fn pattern_of<S: PatternShop>(bytes: &[u8], at: u32, shop: &mut S) -> Result<Pat
     ensures text { IfOk result (λ p. pattern_text p ≡ bytes.now) }
     ensures read { OnOk result (IsPatternText bytes.now) }
     ensures fault { IfErr result (BlamesText bytes.now at (S.refusals shop.old) (S.refusals shop.new)) }
+    ensures still { OnOk result (S.refusals shop.new ≡ S.refusals shop.old) }
     ensures later { S.refusals shop.old ≤ S.refusals shop.new }
 {
     let Ok(text) = std::str::from_utf8(bytes) else {

@@ -1,7 +1,8 @@
 //! A shop that refuses the builds that a list names.
-ghost use Rattle.std.specs.Prelude.{◌≡◌, ◌≤◌, ℕ, true, IfOk, OnOk, IsOk, IsErrOf};
-ghost use Rattle.px_base.specs.Bytes.{Rose, one_more};
+ghost use Rattle.std.specs.Prelude.{◌≡◌, ◌≤◌, ℕ, true, IfOk, OnOk, IfErr, IsOk, IsErrOf};
+ghost use Rattle.px_base.specs.Bytes.{one_more};
 ghost use Rattle.px_base.specs.Memory.{is_listed};
+ghost use Rattle.rule_eval.specs.Counts.{Counts};
 ghost use Rattle.rule_eval.specs.Patterns.{IsReadable};
 ghost use Rattle.rule_eval.specs.Views.{pattern_text};
 
@@ -59,7 +60,8 @@ impl PatternShop for MemoryShop {
         ensures read { OnOk result (IsReadable text.now) }
         ensures syntax { IsErrOf result PatternFault.Syntax → ¬ (IsReadable text.now) }
         ensures too_big { IsErrOf result PatternFault.TooBig → IsReadable text.now }
-        ensures rose { IsErrOf result PatternFault.TooBig → Rose self.old.refusals self.new.refusals }
+        ensures still { OnOk result (self.new.refusals ≡ self.old.refusals) }
+        ensures counted { IfErr result (Counts self.old.refusals self.new.refusals) }
         ensures later { self.old.refusals ≤ self.new.refusals }
 
         // A listed build gives no pattern.

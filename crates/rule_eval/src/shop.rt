@@ -1,6 +1,6 @@
 //! Who builds patterns, and may refuse one for its size.
-ghost use Rattle.std.specs.Prelude.{◌≡◌, ◌≤◌, ℕ, IfOk, OnOk, IsErrOf};
-ghost use Rattle.px_base.specs.Bytes.{Rose};
+ghost use Rattle.std.specs.Prelude.{◌≡◌, ◌≤◌, ℕ, IfOk, OnOk, IfErr, IsErrOf};
+ghost use Rattle.rule_eval.specs.Counts.{Counts};
 ghost use Rattle.rule_eval.specs.Patterns.{IsReadable};
 ghost use Rattle.rule_eval.specs.Views.{pattern_text};
 
@@ -19,6 +19,8 @@ pub trait PatternShop {
         ensures read { OnOk result (IsReadable text.now) }
         ensures syntax { IsErrOf result PatternFault.Syntax → ¬ (IsReadable text.now) }
         ensures too_big { IsErrOf result PatternFault.TooBig → IsReadable text.now }
-        ensures rose { IsErrOf result PatternFault.TooBig → Rose (refusals self.old) (refusals self.new) }
+        // It counts what it refuses for its size, and nothing else.
+        ensures still { OnOk result (refusals self.new ≡ refusals self.old) }
+        ensures counted { IfErr result (Counts (refusals self.old) (refusals self.new)) }
         ensures later { refusals self.old ≤ refusals self.new };
 }

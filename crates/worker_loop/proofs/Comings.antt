@@ -26,7 +26,10 @@ use Rattle.conn_service.specs.Calm.{Calm}
 use Rattle.conn_service.proofs.Calms.{calm_kept}
 use Rattle.worker_loop.specs.Owned.{Shows, HaveCome, Tracks}
 use Rattle.worker_loop.specs.Runs.{AttendsBy, Runs, Stopping, Began, Unasked}
-use Rattle.worker_loop.specs.Settled.{SettledUnder, AllSettled, SameTurn, TurnDone, EndsOnly, StoppedAfter}
+use Rattle.worker_loop.specs.Settled.{SettledUnder, AllSettled, SameTurn, TurnDone, EndsOnly, NoneStopped, StoppedAfter}
+use Rattle.worker_loop.specs.Met.{Meets}
+use Rattle.conn_service.specs.Farewell.{OnlyTells}
+use Rattle.conn_service.proofs.Farewells.{tells_then, tells_stop}
 use Rattle.worker_loop.proofs.Lists.{contains_none, extended_twice, extended_none, told_step, told_all, history-append, grew_none}
 use Rattle.worker_loop.proofs.Frames.{history_fresh, Passed, client_told, back_told, has_come, no_more_told, rose_after}
 use Rattle.worker_loop.proofs.Servings.{unowned, Others, Here, step_at, step_quiet, step_same}
@@ -330,15 +333,22 @@ pub wait_stops : (now new : Seen) → WaitDid now (Ok tt) new → new.stops ≡ 
 wait_stops now new is = ap (λ (s : Seen). s.stops) is
 
 -- a stop was asked for after a turn, and then connections were ended
-pub stopped_after : {l : Lately} (a b d : Seen) (conns : Slab Conn) (links : ℕ) → TurnDone l conns links → StopDid a true b → Unasked b d → EndsOnly b d conns → StoppedAfter a l d conns links
-stopped_after {l} a b d conns links done did un ends = record {
+pub stopped_after : {l : Lately} {g : List Plan} (first : Slab Conn) (base a b d : Seen) (conns : Slab Conn) (links : ℕ) → Runs base a g conns → Meets first base a conns → NoneStopped base a → TurnDone l conns links → a.stops ≡ base.stops
+    → StopDid a true b → Unasked b d → EndsOnly b d conns → OnlyTells b d → StoppedAfter first base a l d g conns links
+stopped_after {l} first base a b d conns links runs met none done before did un ends tells = record {
+  runs = runs;
+  met = met;
+  unstopped = none;
   done = done;
+  before = before;
   asked = rose_kept a a b d a.stops refl refl (stop_rose a b did) un;
   ended = record {
     ran = stop ∷ ends.ran;
     log = ends.log ∙ ap (λ (o : Option (List Event)). extended o ends.ran) (ap (λ (s : Seen). s.log) did.2) ∙ extended_twice a.log (stop ∷ []) ends.ran;
     notes_on = ends.notes_on;
+    causes = ends.causes;
   };
+  tells = tells_then a b d (tells_stop a b did) tells;
 }
 
 -- a key at which no value was found

@@ -5,3 +5,5 @@ pub mod Comings
 pub mod Accountings
 pub mod Places
 pub mod Meetings
+pub mod Stops
+pub mod Completions

@@ -9,6 +9,7 @@ use Rattle.std.proofs.lemmas.List.Elements.{All-contains, All-from_recursion, Co
 use Rattle.slab.specs.Slab.{Slab, get}
 use Rattle.link_world.specs.declared.note.Note.{Note}
 use Rattle.link_world.specs.declared.note.EndCause.{EndCause}
+use Rattle.link_world.specs.declared.note.EndCause.TheVariants.{Stopped}
 use Rattle.link_world.specs.Log.{Event, LinkEvent, IsFresh, history_of, notes, note_by}
 use Rattle.link_world.specs.Seen.{Seen, Rose}
 use Rattle.link_world.specs.Lately.{Lately}
@@ -24,6 +25,7 @@ use Rattle.conn_service.specs.Went.{Went, Lost, extended}
 use Rattle.worker_loop.specs.Owned.{AreApart, Shows, AreCounted, HaveCome, Tracks, put}
 use Rattle.worker_loop.specs.Runs.{Attends, Runs, Stopping, IsOver, EndsOver, EndsServed, Unasked}
 use Rattle.worker_loop.specs.Settled.{EndsOnly}
+use Rattle.worker_loop.specs.Met.{IsSomebodys}
 use Rattle.worker_loop.proofs.Lists.{true_or_false, all_both, none_in_neither, none_is, contains_none, extended_twice, extended_none, told_step, told_both, told_back, told_then, told_all, told_each, history-append, steps-append, new_none, new_both, grew_all, grew_none}
 use Rattle.worker_loop.proofs.Frames.{history_fresh, Passed, Grows, apart_sym, apart_none, put_same, put_other, have_come, client_told, back_told, tracks_kept, served_weaker, stopping_later, apart_next, over_kept, over_quiet}
 
@@ -447,26 +449,35 @@ attends_grew now f g conns grew (steps, a) = (
     }
 
 -- one connection's notes are on its client's link
-pub ends_went : {S : Type 0} {now new : Seen} {f g : List Plan} {c d : Conn} (conns : Slab Conn) (key : ℕ) → get conns key ≡ Some c → Moved S now new f g c d → EndsOnly now new conns
-ends_went conns key gc w = record {
+pub ends_went : {S : Type 0} {now new : Seen} {f g : List Plan} {c d : Conn} (conns : Slab Conn) (key : ℕ) → get conns key ≡ Some c → (w : Moved S now new f g c d)
+    → ((l : ℕ) (cause : EndCause) → Contains (notes (history_of l w.ran)) (end_note l cause) → cause ≡ Stopped) → EndsOnly now new conns
+ends_went {c = c} conns key gc w causes = record {
   ran = w.ran;
   log = w.log;
-  notes_on = λ l nobody. ap notes (sym (w.shows l)) ∙ w.noted l (λ same. nobody key _ gc (sym same));
+  notes_on = λ l. elim (cases_eq l c.client.link) [
+    | inl same ↦ inl (key, c, gc, sym same)
+    | inr ne ↦ inr (ap notes (sym (w.shows l)) ∙ w.noted l ne)
+  ];
+  causes = causes;
 }
 
-pub ends_lost : {S : Type 0} {now new : Seen} {f g : List Plan} {c : Conn} (conns : Slab Conn) (key : ℕ) → get conns key ≡ Some c → Strayed S now new f g c → EndsOnly now new conns
-ends_lost conns key gc (d, w, un) = ends_went conns key gc w
-
 pub ends_none : (now : Seen) (conns : Slab Conn) → EndsOnly now now conns
-ends_none now conns = record { ran = []; log = extended_none now.log; notes_on = λ l nobody. refl }
+ends_none now conns = record { ran = []; log = extended_none now.log; notes_on = λ l. inr refl; causes = λ l cause has. absurd (contains_none (end_note l cause) has) }
 
 -- and those of other open ones after them
 pub ends_then : (a b d : Seen) (conns later : Slab Conn) → ((k : ℕ) (x : Conn) → get later k ≡ Some x → get conns k ≡ Some x) → EndsOnly a b conns → EndsOnly b d later → EndsOnly a d conns
 ends_then a b d conns later within p q = record {
   ran = p.ran ++ q.ran;
   log = q.log ∙ ap (λ (o : Option (List Event)). extended o q.ran) p.log ∙ extended_twice a.log p.ran q.ran;
-  notes_on = λ l nobody. notes-append l p.ran q.ran ∙ ap (λ (ns : List Note). ns ++ notes (history_of l q.ran)) (p.notes_on l nobody) ∙ q.notes_on l (λ k x gx. nobody k x (within k x gx));
+  notes_on = λ l. both l (p.notes_on l) (q.notes_on l);
+  causes = λ l cause has. ⊎_elim (p.causes l cause) (q.causes l cause)
+      (Contains-append_cases (notes (history_of l p.ran)) (notes (history_of l q.ran)) (end_note l cause) (subst (λ (ns : List Note). Contains ns (end_note l cause)) (notes-append l p.ran q.ran) has));
 }
+  where
+    both : (l : ℕ) → IsSomebodys l conns ⊎ (notes (history_of l p.ran) ≡ []) → IsSomebodys l later ⊎ (notes (history_of l q.ran) ≡ []) → IsSomebodys l conns ⊎ (notes (history_of l (p.ran ++ q.ran)) ≡ [])
+    both l (inl here) y = inl here
+    both l (inr none) (inl (k, x, gx, is)) = inl (k, x, within k x gx, is)
+    both l (inr none) (inr none') = inr (notes-append l p.ran q.ran ∙ ap (λ (ns : List Note). ns ++ notes (history_of l q.ran)) none ∙ none')
 
 -- the keys from one on have what they had, and those below it nothing
 pub within_kept : (conns later : Slab Conn) (key : ℕ) → ((k : ℕ) → k < key → get later k ≡ None) → ((k : ℕ) → key ≤ k → get later k ≡ get conns k) → (k : ℕ) (x : Conn) → get later k ≡ Some x → get conns k ≡ Some x

@@ -3,3 +3,4 @@ pub mod Runs
 pub mod Settled
 pub mod Accounts
 pub mod Met
+pub mod Complete

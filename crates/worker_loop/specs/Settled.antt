@@ -1,13 +1,20 @@
 -- When nothing more can be done before the next wait.
 use Rattle.std.specs.Prelude.{◌≡◌, ◌⊎◌, ℕ, ◌≤◌, List, [], Some, true}
+use Rattle.std.specs.List.{Contains}
 use Rattle.slab.specs.Slab.{Slab, get, slab_len}
 use Rattle.link_world.specs.Lately.{Lately}
 use Rattle.link_world.specs.Log.{Event, history_of, notes}
 use Rattle.link_world.specs.Seen.{Seen, Rose}
+use Rattle.link_world.specs.declared.note.EndCause.{EndCause}
+use Rattle.link_world.specs.declared.note.EndCause.TheVariants.{Stopped}
+use Rattle.conversation.specs.Plans.{Plan}
+use Rattle.conversation.specs.Served.{end_note}
 use Rattle.conn_machine.specs.declared.conn.Conn.{Conn}
 use Rattle.conn_service.specs.Calm.{Calm}
 use Rattle.conn_service.specs.Went.{extended}
-use Rattle.worker_loop.specs.Accounts.{IsNobodys}
+use Rattle.conn_service.specs.Farewell.{OnlyTells}
+use Rattle.worker_loop.specs.Met.{IsSomebodys, Meets}
+use Rattle.worker_loop.specs.Runs.{Runs}
 
 abbrev pub SettledUnder : Lately → Slab Conn → ℕ → Type 0
 SettledUnder l conns k = (c : Conn) → get conns k ≡ Some c → Calm l c
@@ -22,17 +29,31 @@ pub record TurnDone (l : Lately) (conns : Slab Conn) (links : ℕ) : Type 0 wher
   pub arrivals : (l.no_more ≡ true) ⊎ (links ≤ slab_len conns)
   pub settled : AllSettled l conns
 
--- Since then only connections that were open were ended: no note was made but on their links.
+-- Since then no note was made but on the links of these connections, and no end but for a stop.
 pub record EndsOnly (old new : Seen) (conns : Slab Conn) : Type 0 where
   pub ran : List Event
   pub log : new.log ≡ extended old.log ran
-  pub notes_on : (link : ℕ) → IsNobodys link conns → notes (history_of link ran) ≡ []
+  pub notes_on : (link : ℕ) → IsSomebodys link conns ⊎ (notes (history_of link ran) ≡ [])
+  pub causes : (link : ℕ) (cause : EndCause) → Contains (notes (history_of link ran)) (end_note link cause) → cause ≡ Stopped
 
--- A stop was asked for after a turn, at this moment, and then these connections were ended, each of which was settled.
-pub record StoppedAfter (old : Seen) (l : Lately) (new : Seen) (conns : Slab Conn) (links : ℕ) : Type 0 where
+-- since then no connection was ended for a stop
+pub record NoneStopped (old new : Seen) : Type 0 where
+  pub ran : List Event
+  pub log : new.log ≡ extended old.log ran
+  pub none : (link : ℕ) → Contains (notes (history_of link ran)) (end_note link Stopped) → ⊥
+
+-- A run that began with these connections came to a moment after a turn, at which these are open and nothing more could be
+-- done. No client was forgotten until then, and none was ended for a stop. A stop was asked for at that moment, and then
+-- links were closed and notes told, on the links of these connections, and nothing else was done.
+pub record StoppedAfter (first : Slab Conn) (base at : Seen) (l : Lately) (new : Seen) (generations : List Plan) (conns : Slab Conn) (links : ℕ) : Type 0 where
+  pub runs : Runs base at generations conns
+  pub met : Meets first base at conns
+  pub unstopped : NoneStopped base at
   pub done : TurnDone l conns links
-  pub asked : Rose old.stops new.stops
-  pub ended : EndsOnly old new conns
+  pub before : at.stops ≡ base.stops
+  pub asked : Rose at.stops new.stops
+  pub ended : EndsOnly at new conns
+  pub tells : OnlyTells at new
 
 -- the clock and the arrivals were asked as before
 pub record SameTurn (old new : Lately) : Type 0 where

@@ -9,7 +9,8 @@ ghost use Rattle.worker_loop.specs.Met.{Meets};
 ghost use Rattle.worker_loop.specs.Runs.{Attends, Attended, Runs, Stopping, IsStopping, Unasked};
 ghost use Rattle.desk.specs.Desks.{Desk};
 ghost use Rattle.worker_loop.specs.Accounts.{Accounts};
-ghost use Rattle.worker_loop.specs.Settled.{SettledUnder, SameTurn, EndsOnly};
+ghost use Rattle.worker_loop.specs.Settled.{SettledUnder, SameTurn, EndsOnly, NoneStopped};
+ghost use Rattle.conn_service.specs.Farewell.{OnlyTells};
 
 use crate::worker::Worker;
 use conn_service::{quit, serve, stop};
@@ -35,6 +36,7 @@ impl Worker {
             → Runs base (W.seen world.new) (S.desk shared.new).generations self.new.conns }
         ensures stops { (W.seen world.new).stops ≡ (W.seen world.old).stops }
         ensures grew { Grew (S.desk shared.old).generations (S.desk shared.new).generations }
+        ensures unstopped { NoneStopped (W.seen world.old) (W.seen world.new) }
         ensures links { self.new.links ≡ self.old.links }
         ensures found { IfOk result (λ found. found ≡ is_some (get self.old.conns key)) }
         ensures fewer { slab_len self.new.conns ≤ slab_len self.old.conns }
@@ -78,6 +80,7 @@ impl Worker {
             → Runs base (W.seen world.new) g self.new.conns × Stopping base (W.seen world.new) }
         ensures unasked { Unasked (W.seen world.old) (W.seen world.new) }
         ensures ends { EndsOnly (W.seen world.old) (W.seen world.new) self.old.conns }
+        ensures tells { OnlyTells (W.seen world.old) (W.seen world.new) }
         ensures gone { get self.new.conns key ≡ None }
         ensures others { (k : ℕ) → k ≢ key → get self.new.conns k ≡ get self.old.conns k }
         ensures accounts { (base : Seen) (from to : Desk) → OnOk result (Accounts base (W.seen world.old) from to self.old.conns
@@ -101,6 +104,7 @@ impl Worker {
             → Runs base (W.seen world.new) g self.new.conns }
         ensures unasked { Unasked (W.seen world.old) (W.seen world.new) }
         ensures ends { EndsOnly (W.seen world.old) (W.seen world.new) self.old.conns }
+        ensures tells { OnlyTells (W.seen world.old) (W.seen world.new) }
         ensures ended { (k : ℕ) → get self.new.conns k ≡ None }
         ensures accounts { (base : Seen) (from to : Desk) → result ≡ true → Accounts base (W.seen world.old) from to self.old.conns
             → Accounts base (W.seen world.new) from to self.new.conns }

@@ -3,6 +3,8 @@ ghost use Rattle.std.specs.Prelude.{◌≡◌, ◌≢◌, ◌++◌, ℕ, List, I
 ghost use Rattle.slab.specs.Slab.{Slab, get};
 ghost use Rattle.conn_machine.specs.declared.conn.Conn.{Conn};
 ghost use Rattle.worker_loop.specs.Settled.{EndsOnly, StoppedAfter};
+ghost use Rattle.worker_loop.specs.Complete.{AllComplete};
+ghost use Rattle.conn_service.specs.Farewell.{OnlyTells};
 ghost use Rattle.desk.specs.Desks.{Desk, Grew};
 ghost use Rattle.worker_loop.specs.Accounts.{Accounts};
 ghost use Rattle.worker_loop.specs.Met.{Meets, AllEnded};
@@ -64,9 +66,11 @@ pub fn run_worker<R: Wait, W: World, S: Shared>(
     ensures met { result ≢ WorkerEnd.Memory → AllEnded worker.old.conns (W.seen world.old) (W.seen world.new) }
     ensures stopped { result ≡ WorkerEnd.Stopped → Rose (W.seen world.old).stops (W.seen world.new).stops }
 
-    // All was settled when the stop was asked for.
-    ensures settled { result ≡ WorkerEnd.Stopped → (at : W) × (conns : Slab Conn)
-        × StoppedAfter (W.seen at) (W.lately at) (W.seen world.new) conns worker.old.links }
+    // The stop was asked for at a moment of this run at which all was settled, and then the open connections were ended.
+    // Where its links did what they should, each request of a connection that was ended has its whole reply.
+    ensures settled { result ≡ WorkerEnd.Stopped → (at : W) × (generations : List Plan) × (conns : Slab Conn)
+        × StoppedAfter worker.old.conns (W.seen world.old) (W.seen at) (W.lately at) (W.seen world.new) generations conns worker.old.links
+        × AllComplete (W.seen world.old) (W.seen at) (W.lately at) (W.seen world.new) }
     ensures unasked { result ≡ WorkerEnd.WorldFault → (W.seen world.new).stops ≡ (W.seen world.old).stops }
     ensures fault { result ≡ WorkerEnd.WorldFault → Rose (W.seen world.old).waits_failed (W.seen world.new).waits_failed }
 {
@@ -93,6 +97,7 @@ fn finish<W: World>(alloc: Global, worker: &mut Worker, world: &mut W, end: Work
         → Runs base (W.seen world.new) g worker.new.conns }
     ensures unasked { Unasked (W.seen world.old) (W.seen world.new) }
     ensures ends { EndsOnly (W.seen world.old) (W.seen world.new) worker.old.conns }
+    ensures tells { OnlyTells (W.seen world.old) (W.seen world.new) }
     ensures ended { (k : ℕ) → get worker.new.conns k ≡ None }
     ensures accounts { (base : Seen) (from to : Desk) → result ≢ WorkerEnd.Memory → Accounts base (W.seen world.old) from to worker.old.conns
         → Accounts base (W.seen world.new) from to worker.new.conns }

@@ -9,7 +9,7 @@ ghost use Rattle.conversation.specs.Plans.{Plan};
 ghost use Rattle.worker_loop.specs.Runs.{Attends, Attended, Runs, Began};
 ghost use Rattle.desk.specs.Desks.{Desk, Grew};
 ghost use Rattle.worker_loop.specs.Accounts.{Accounts};
-ghost use Rattle.worker_loop.specs.Settled.{SettledUnder, AllSettled, TurnDone, SameTurn};
+ghost use Rattle.worker_loop.specs.Settled.{SettledUnder, AllSettled, TurnDone, SameTurn, NoneStopped};
 
 use conn_machine::Conn;
 use conn_service::ROOM;
@@ -71,6 +71,7 @@ impl Worker {
             → Runs base (W.seen world.new) (S.desk shared.new).generations self.new.conns }
         ensures stops { (W.seen world.new).stops ≡ (W.seen world.old).stops }
         ensures grew { Grew (S.desk shared.old).generations (S.desk shared.new).generations }
+        ensures unstopped { NoneStopped (W.seen world.old) (W.seen world.new) }
         ensures links { self.new.links ≡ self.old.links }
 
         // No more clients are served at a time than may be.
@@ -111,6 +112,7 @@ impl Worker {
             → Runs base (W.seen world.new) (S.desk shared.new).generations self.new.conns }
         ensures stops { (W.seen world.new).stops ≡ (W.seen world.old).stops }
         ensures grew { Grew (S.desk shared.old).generations (S.desk shared.new).generations }
+        ensures unstopped { NoneStopped (W.seen world.old) (W.seen world.new) }
         ensures links { self.new.links ≡ self.old.links }
         ensures fewer { slab_len self.new.conns ≤ slab_len self.old.conns }
         ensures turn { SameTurn (W.lately world.old) (W.lately world.new) }
@@ -146,6 +148,7 @@ impl Worker {
             → Runs base (W.seen world.new) (S.desk shared.new).generations self.new.conns }
         ensures stops { (W.seen world.new).stops ≡ (W.seen world.old).stops }
         ensures grew { Grew (S.desk shared.old).generations (S.desk shared.new).generations }
+        ensures unstopped { NoneStopped (W.seen world.old) (W.seen world.new) }
         ensures links { self.new.links ≡ self.old.links }
         ensures more { slab_len self.new.conns ≤ slab_len self.old.conns + 1 }
         ensures clocked { (W.lately world.new).clocked ≡ (W.lately world.old).clocked }
@@ -173,6 +176,7 @@ impl Worker {
         ensures met { (first : Slots Connection) (base : Seen) → OnOk result (Meets first base (W.seen world.old) self.old.conns
             → Meets first base (W.seen world.new) self.new.conns) }
         ensures stops { (W.seen world.new).stops ≡ (W.seen world.old).stops }
+        ensures unstopped { NoneStopped (W.seen world.old) (W.seen world.new) }
         ensures links { self.new.links ≡ self.old.links }
         ensures more { slab_len self.new.conns ≤ slab_len self.old.conns + 1 }
         ensures clocked { (W.lately world.new).clocked ≡ (W.lately world.old).clocked }

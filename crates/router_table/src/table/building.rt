@@ -1,7 +1,7 @@
 //! How a table is built.
-ghost use Rattle.std.specs.Prelude.{◌≡◌, ◌+◌, ◌-◌, ◌^◌, ◌≤◌, min, count_by, IfOk};
+ghost use Rattle.std.specs.Prelude.{◌≡◌, ◌≤◌, IfOk};
 ghost use Rattle.router_table.specs.Settings.{setting_of};
-ghost use Rattle.router_table.specs.Rows.{AreRows, is_refused};
+ghost use Rattle.router_table.specs.Rows.{AreRows, Refuses};
 ghost use Rattle.router_table.specs.Steps.{meant};
 
 use super::Table;
@@ -31,8 +31,8 @@ pub fn build_table<S: PatternShop>(
     ensures rows { IfOk result (λ table.
         AreRows (setting_of merged.now services.now middlewares.now) spare merged.now.routers table.rows) }
     // The shop refused a pattern for each router that is disabled for that.
-    ensures refused { IfOk result (λ table.
-        min (S.refusals shop.old + count_by (λ row. is_refused row.state) table.rows) (2 ^ 64 - 1) ≤ S.refusals shop.new) }
+    ensures refused { IfOk result (λ table. Refuses (S.refusals shop.old) (S.refusals shop.new) table.rows) }
+    ensures later { S.refusals shop.old ≤ S.refusals shop.new }
 {
     let setting = Setting {
         merged,
@@ -58,8 +58,8 @@ fn rows_of<S: PatternShop>(
 ) -> Result<List<Row>, Memory>
     requires { spare ≤ 256 }
     ensures rows { IfOk result (AreRows (meant setting.now) spare setting.now.merged.now.routers) }
-    ensures refused { IfOk result (λ rows.
-        min (S.refusals shop.old + count_by (λ row. is_refused row.state) rows) (2 ^ 64 - 1) ≤ S.refusals shop.new) }
+    ensures refused { IfOk result (Refuses (S.refusals shop.old) (S.refusals shop.new)) }
+    ensures later { S.refusals shop.old ≤ S.refusals shop.new }
 {
     let mut rows = List::new(alloc);
     let mut left = spare;

@@ -1,3 +1,4 @@
+use Rattle.conn_service.proofs.Farewells.{tells_then}
 use Rattle.std.proofs.Common.{◌∙◌}
 use Rattle.std.proofs.lemmas.Result.{on_ok_weaker, on_err_weaker}
 use Rattle.conn_service.proofs.Wents.{went_then, lost_then, tracked_then, no_desk}
@@ -17,3 +18,9 @@ returns-clause-lost g c = λ desk. on_err_weaker c.tell.result (λ w. lost_then 
 
 pub returns-clause-lately : goal.returns-clause-lately
 returns-clause-lately g c = λ opened. c.tell.ensures.lately ∙ c.hang_up.ensures.open opened
+
+pub returns-clause-tells : goal.returns-clause-tells
+returns-clause-tells g c = tells_then (g.W.World.seen c.args.world.now) (g.W.World.seen c.hang_up.new.world) (g.W.World.seen c.tell.new.world) c.hang_up.ensures.tells c.tell.ensures.tells
+
+pub returns-clause-cause : goal.returns-clause-cause
+returns-clause-cause g c = c.tell.ensures.cause

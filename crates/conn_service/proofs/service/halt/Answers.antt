@@ -1,4 +1,6 @@
-use Rattle.std.proofs.Common.{subst, sym, ℕ, Option}
+use Rattle.conn_service.proofs.Farewells.{tells_none, tells_release}
+use Rattle.std.proofs.Common.{subst, sym, ℕ, Option, inl}
+use Rattle.conn_service.proofs.Lists.{not_false}
 use Rattle.conn_machine.specs.Reached.{IsEnding}
 use Rattle.conn_service.specs.Released.{IsServer}
 use Rattle.conn_service.proofs.Wents.{went_none, went_stop, went_weaker, went_let_go, keeps_ending}
@@ -21,3 +23,21 @@ returns-in-Some-clause-over g c = subst IsEnding (sym c.stop.ensures.over) tt
 
 pub returns-in_default-clause-over : goal.returns-in_default-clause-over
 returns-in_default-clause-over g c = subst IsEnding (sym c.stop.ensures.over) tt
+
+pub returns-then-not-is_open-clause-tells : goal.returns-then-not-is_open-clause-tells
+returns-then-not-is_open-clause-tells g c = tells_none (g.W.World.seen c.args.world.now)
+
+pub returns-in_default-clause-tells : goal.returns-in_default-clause-tells
+returns-in_default-clause-tells g c = tells_none (g.W.World.seen c.args.world.now)
+
+pub returns-in-Some-clause-tells : goal.returns-in-Some-clause-tells
+returns-in-Some-clause-tells g c = tells_release _ (g.W.World.seen c.args.world.now) c.in-Some.link (g.W.World.seen c.release.new.world) c.release.ensures.seen
+
+pub returns-then-not-is_open-clause-stopped : goal.returns-then-not-is_open-clause-stopped
+returns-then-not-is_open-clause-stopped g c = λ opened. absurd (not_false (c.is_open.ensures.1 opened) c.if-not-is_open.true)
+
+pub returns-in_default-clause-stopped : goal.returns-in_default-clause-stopped
+returns-in_default-clause-stopped g c = λ opened. inl c.stop.ensures.over
+
+pub returns-in-Some-clause-stopped : goal.returns-in-Some-clause-stopped
+returns-in-Some-clause-stopped g c = λ opened. inl c.stop.ensures.over

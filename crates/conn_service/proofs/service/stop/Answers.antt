@@ -1,3 +1,4 @@
+use Rattle.conn_service.proofs.Farewells.{tells_then, told_by}
 use Rattle.std.proofs.Common.{inr}
 use Rattle.std.proofs.lemmas.Result.{on_ok_weaker, on_err_weaker}
 use Rattle.conn_service.proofs.Wents.{went_then, went_weaker, lost_then, lost_weaker, tracked_then, no_desk}
@@ -20,3 +21,9 @@ returns-clause-lost g c = λ desk. on_err_weaker c.close_and_tell.result (λ w. 
 
 pub returns-clause-finished : goal.returns-clause-finished
 returns-clause-finished g c = on_ok_weaker c.close_and_tell.result (λ done. done c.halt.ensures.over) c.close_and_tell.ensures.finished
+
+pub returns-clause-tells : goal.returns-clause-tells
+returns-clause-tells g c = tells_then (g.W.World.seen c.args.world.now) (g.W.World.seen c.halt.new.world) (g.W.World.seen c.close_and_tell.new.world) c.halt.ensures.tells c.close_and_tell.ensures.tells
+
+pub returns-clause-stopped : goal.returns-clause-stopped
+returns-clause-stopped g c = λ opened. on_ok_weaker c.close_and_tell.result (λ done. told_by _ _ (c.close_and_tell.ensures.cause _ (c.halt.ensures.stopped opened)) (done c.halt.ensures.over).1) c.close_and_tell.ensures.finished

@@ -1,3 +1,4 @@
+use Rattle.conn_service.proofs.Farewells.{tells_none, tells_note, tells_refused, tells_then}
 use Rattle.std.proofs.Common.{refl, ◌∙◌, subst, sym}
 use Rattle.conn_machine.specs.declared.conn.Conn.{Conn}
 use Rattle.conn_service.specs.Moments.{moment}
@@ -15,7 +16,7 @@ pub returns-then-is_quiet-clause-finished : goal.returns-then-is_quiet-clause-fi
 returns-then-is_quiet-clause-finished g c = λ end. absurd (not_open c.args.conn.now.phase end (c.is_quiet.ensures.open c.if-is_quiet.true))
 
 pub notes-init : goal.notes-init
-notes-init g c = record { went = λ desk. went_same c.requires.linked; lately = refl; open_ = λ opened. refl; ending = λ end. end }
+notes-init g c = record { went = λ desk. went_same c.requires.linked; lately = refl; open_ = λ opened. refl; ending = λ end. end; cause = λ x e. e; tells = tells_none (g.W.World.seen c.args.world.now) }
 
 pub returns-in_err-note-clause-lost : goal.returns-in_err-note-clause-lost
 returns-in_err-note-clause-lost g c = λ desk. at_err c.from_residual.result (lost_note (c.notes.invariant.went desk) c.in_err-note.ensures.seen c.in_err-note.ensures.lately c.in-Some.ensures.unended)
@@ -34,6 +35,8 @@ notes-preserved g c = record {
   lately = c.in_ok-note.ensures.lately ∙ c.notes.invariant.lately;
   open_ = notes_then c.args.conn.now c.notes.conn c.take_note.new.self c.notes.invariant.open_ c.take_note.ensures.open;
   ending = λ end. c.take_note.ensures.ending (c.notes.invariant.ending end);
+  cause = λ x e. c.take_note.ensures.cause x (c.notes.invariant.cause x e);
+  tells = tells_then (g.W.World.seen c.args.world.now) (g.W.World.seen c.notes.world) (g.W.World.seen c.note.new.self) c.notes.invariant.tells (tells_note (g.W.World.seen c.notes.world) c.in-Some.note tt (g.W.World.seen c.note.new.self) c.in_ok-note.ensures.seen);
 }
 
 pub returns-clause-went : goal.returns-clause-went
@@ -51,3 +54,21 @@ returns-clause-open g c = notes_then c.args.conn.now c.notes.conn c.take_note.ne
 
 pub returns-clause-finished : goal.returns-clause-finished
 returns-clause-finished g c = λ end. (c.in_default.ensures.drained.0, told_of c.take_note.new.self.phase (c.take_note.ensures.ending (c.notes.invariant.ending end)) c.in_default.ensures.drained.1)
+
+pub returns-then-is_quiet-clause-tells : goal.returns-then-is_quiet-clause-tells
+returns-then-is_quiet-clause-tells g c = tells_none (g.W.World.seen c.args.world.now)
+
+pub returns-in_err-note-clause-tells : goal.returns-in_err-note-clause-tells
+returns-in_err-note-clause-tells g c = tells_then (g.W.World.seen c.args.world.now) (g.W.World.seen c.notes.world) (g.W.World.seen c.note.new.self) c.notes.invariant.tells (tells_refused (g.W.World.seen c.notes.world) c.in-Some.note _ (g.W.World.seen c.note.new.self) c.in_err-note.ensures.seen)
+
+pub returns-clause-tells : goal.returns-clause-tells
+returns-clause-tells g c = c.notes.invariant.tells
+
+pub returns-then-is_quiet-clause-cause : goal.returns-then-is_quiet-clause-cause
+returns-then-is_quiet-clause-cause g c = λ x e. e
+
+pub returns-in_err-note-clause-cause : goal.returns-in_err-note-clause-cause
+returns-in_err-note-clause-cause g c = λ x e. c.take_note.ensures.cause x (c.notes.invariant.cause x e)
+
+pub returns-clause-cause : goal.returns-clause-cause
+returns-clause-cause g c = λ x e. c.take_note.ensures.cause x (c.notes.invariant.cause x e)

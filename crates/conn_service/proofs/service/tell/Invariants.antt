@@ -1,6 +1,8 @@
+use Rattle.link_world.specs.declared.note.EndCause.{EndCause}
+use Rattle.conn_service.specs.Farewell.{OnlyTells}
 use Rattle.std.proofs.Common.{◌≡◌}
 use Rattle.desk.specs.Desks.{Desk}
-use Rattle.conn_machine.specs.Reached.{notes_left, IsOpen, IsEnding}
+use Rattle.conn_machine.specs.Reached.{notes_left, IsOpen, IsEnding, EndsBy}
 use Rattle.conn_service.specs.Moments.{moment}
 use Rattle.conn_service.specs.Went.{Went}
 use Rattle.conn_service.proofs.service.tell.Given as goal
@@ -11,6 +13,8 @@ invariant-notes g l = record {
   lately : g.W.World.lately l.world ≡ g.W.World.lately l.fn.world;
   open_ : IsOpen l.fn.conn → l.conn ≡ record l.fn.conn { notes = l.conn.notes };
   ending : IsEnding l.fn.conn.phase → IsEnding l.conn.phase;
+  cause : (x : EndCause) → EndsBy x l.fn.conn.phase → EndsBy x l.conn.phase;
+  tells : OnlyTells (g.W.World.seen l.fn.world) (g.W.World.seen l.world);
 }
 
 abbrev pub decreases-notes : goal.decreases-notes

@@ -1,3 +1,4 @@
+use Rattle.worker_loop.specs.Settled.{NoneStopped}
 use Rattle.std.proofs.Common.{◌≡◌}
 use Rattle.link_world.specs.Seen.{Seen}
 use Rattle.desk.specs.Desks.{Desk, Grew}
@@ -15,3 +16,4 @@ invariant-loop g l =
     × (l.worker.links ≡ l.fn.worker.links)
     × Grew (g.S.Shared.desk l.fn.shared).generations (g.S.Shared.desk l.shared).generations
     × Meets l.fn.worker.conns (g.W.World.seen l.fn.world) (g.W.World.seen l.world) l.worker.conns
+    × NoneStopped (g.W.World.seen l.fn.world) (g.W.World.seen l.world)

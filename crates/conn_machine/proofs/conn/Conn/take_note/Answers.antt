@@ -1,7 +1,7 @@
-use Rattle.std.proofs.Common.{rules, refl, ap, ◌∙◌}
-use Rattle.conn_machine.specs.Reached.{ending_note}
+use Rattle.std.proofs.Common.{rules, refl, ap, ◌∙◌, subst, sym}
+use Rattle.conn_machine.specs.Reached.{ending_note, EndsBy}
 use Rattle.conn_machine.specs.declared.parts.Current.{Current}
-use Rattle.conn_machine.proofs.Tells.{first_link, first_out, some_length, no_items, reached_told, reached_open_told, reached_end_told, unended_some, unended_untold}
+use Rattle.conn_machine.proofs.Tells.{first_link, first_out, some_length, no_items, reached_told, reached_open_told, reached_end_told, unended_some, unended_untold, ends_told}
 use Rattle.conn_machine.proofs.conn.Conn.take_note.Goals as goal
 
 pub returns-then-not-is_empty-clause-of_link : goal.returns-then-not-is_empty-clause-of_link
@@ -29,3 +29,15 @@ returns-then-self-clause-reached c = λ steps r.
 pub returns-else-self-clause-reached : goal.returns-else-self-clause-reached
 returns-else-self-clause-reached c = λ steps r.
     reached_end_told c.in-Over.cause _ c.in-Over.is (no_items c.args.self.now.notes _ c.is_empty.ensures c.if-not-is_empty.false) c.if-self.false refl r
+
+pub returns-then-self-clause-cause : goal.returns-then-self-clause-cause
+returns-then-self-clause-cause c = λ cause e. subst (EndsBy cause) (sym c.take_open.ensures.phase) e
+
+pub returns-else-self-clause-cause : goal.returns-else-self-clause-cause
+returns-else-self-clause-cause c = λ cause e. ends_told c.args.self.now.phase c.in-Over.cause cause c.in-Over.is e
+
+pub returns-then-not-is_empty-clause-cause : goal.returns-then-not-is_empty-clause-cause
+returns-then-not-is_empty-clause-cause c = λ cause e. e
+
+pub returns-in_default-clause-cause : goal.returns-in_default-clause-cause
+returns-in_default-clause-cause c = λ cause e. e

@@ -1,7 +1,8 @@
+use Rattle.desk.specs.Issues.{published_in}
 use Rattle.desk.specs.Kept.{seats_of}
 use Rattle.desk.proofs.Timelines.{pinned_or}
 use Rattle.desk.proofs.one.OneDeskShared.pin.Goals as goal
 
 pub returns-clause-pinned : goal.returns-clause-pinned
-returns-clause-pinned c = pinned_or c.args.self.now.timeline.earlier.items c.pin.new.self.earlier.items c.args.self.now.timeline.newest c.pin.new.self.newest
+returns-clause-pinned c = pinned_or (published_in c.args.self.now.timeline.earlier.items) (published_in c.pin.new.self.earlier.items) c.args.self.now.timeline.newest c.pin.new.self.newest
     (seats_of c.args.self.now.seats) c.pin.result c.pin.ensures.issue c.pin.ensures.generations c.pin.ensures.ok c.pin.ensures.err c.pin.new.self.numbered

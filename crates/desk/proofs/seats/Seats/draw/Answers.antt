@@ -1,15 +1,31 @@
-use Rattle.std.proofs.Common.{List, ap, ◌∙◌}
-use Rattle.std.specs.List.{flat_map}
-use Rattle.desk.specs.Runs.{pick_by, last_end}
-use Rattle.desk.specs.declared.runs.PickRun.{PickRun}
-use Rattle.desk.proofs.Keeps.{seat_draw}
+use Rattle.std.proofs.Common.{ap, ◌∙◌, List}
+use Rattle.link_world.specs.declared.note.NodePick.{NodePick}
+use Rattle.desk.specs.declared.told.Told.TheVariants.{Drew}
+use Rattle.desk.specs.declared.told.NodeCount.{NodeCount}
+use Rattle.desk.specs.Told.{last_count}
+use Rattle.desk.proofs.Keeps.{seat_draw, seat_stays, seat_others}
+use Rattle.desk.proofs.Counts.{counted_draw}
 use Rattle.desk.proofs.seats.Seats.draw.Goals as goal
 
 pub returns-in-Pick-clause-drawn : goal.returns-in-Pick-clause-drawn
 returns-in-Pick-clause-drawn c =
-    let drawn = (rw c.in-Pick.is at c.draw-drawn.ensures) in
-    seat_draw c.args.self.now.numbers.items c.args.self.now.looks.items c.args.self.now.picks.items c.keep_picks.new.runs.items
-    c.args.number c.args.node c.count_at-count.result c.args.mask c.in-Pick.pick drawn.1.lawful.onward
-    c.requires.held c.keep_picks.ensures.picks
-    (c.count_at-count.ensures ∙ ap (λ (xs : List PickRun). last_end c.args.node 0 (flat_map (pick_by c.args.number) xs)) c.as_slice.ensures.value)
-    drawn
+    let count = c.count_at-count.ensures ∙ ap (λ (xs : List NodeCount). last_count c.args.number c.args.node 0 xs) c.as_slice.ensures.value
+    ∙ c.args.self.now.counted c.args.number c.args.node in
+    seat_draw c.args.self.now.numbers.items c.args.self.now.told.items c.and-self.result.items c.args.number c.args.node c.count_at-count.result c.args.mask c.in-Pick.pick
+    c.requires.held c.and-self.ensures count (rw c.in-Pick.is at c.draw-drawn.ensures)
+
+pub returns-in-Pick-clause-held : goal.returns-in-Pick-clause-held
+returns-in-Pick-clause-held c = seat_stays c.args.self.now.numbers.items c.args.self.now.told.items c.and-self.result.items c.args.number c.requires.held
+
+pub returns-in-Pick-clause-others : goal.returns-in-Pick-clause-others
+returns-in-Pick-clause-others c =
+    let p : NodePick = record { node = c.args.node; pick = c.in-Pick.pick } in
+    seat_others c.args.self.now.numbers.items c.args.self.now.told.items c.and-self.result.items c.args.number (Drew p) c.and-self.ensures
+
+pub invariant_of-self : goal.invariant_of-self
+invariant_of-self c = record {
+  counted =
+      let p : NodePick = record { node = c.args.node; pick = c.in-Pick.pick } in
+      counted_draw c.args.self.now.counts.items c.put_count.new.counts.items c.args.self.now.told.items c.and-self.result.items c.args.number p
+      c.args.self.now.counted c.and-self.ensures c.put_count.ensures.counts;
+}

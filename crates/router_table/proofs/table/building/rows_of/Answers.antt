@@ -11,6 +11,7 @@ loop-entry-preserved g c = record {
       c.in_ok-row.ensures.row c.in_ok-row.ensures.left c.in_ok-push.ensures.ok c.loop-entry.invariant.rows;
   refused = refused_more (g.S.PatternShop.refusals c.args.shop.now) c.loop-entry.rows c.push.new.self c.in_ok-row.row (g.S.PatternShop.refusals c.loop-entry.shop) (g.S.PatternShop.refusals c.row_of.new.shop)
       c.loop-entry.invariant.refused c.in_ok-row.ensures.later c.in_ok-row.ensures.refused c.in_ok-push.ensures.ok;
+  later = omega (arith, c.loop-entry.invariant.later, c.in_ok-row.ensures.later);
 }
 
 pub returns-clause-rows : goal.returns-clause-rows

@@ -10,4 +10,5 @@ invariant-loop-entry g l = record {
   rows : (rs : List Row) → AreRows (meant l.setting) l.left (drop l.entry-index l.setting.merged.now.routers) rs
       → AreRows (meant l.setting) l.spare l.setting.merged.now.routers (l.rows ++ rs);
   refused : min (g.S.PatternShop.refusals l.fn.shop + count_by (λ (row : Row). is_refused row.state) l.rows) (2 ^ 64 - 1) ≤ g.S.PatternShop.refusals l.shop;
+  later : g.S.PatternShop.refusals l.fn.shop ≤ g.S.PatternShop.refusals l.shop;
 }

@@ -1,3 +1,4 @@
+use Rattle.worker_loop.proofs.Stops.{stopless_none, stopless_same, stopless_then, stopless_came, stopless_close}
 use Rattle.std.proofs.Common.{◌≡◌, ℕ, ap, sym, ◌∙◌}
 use Rattle.slab.specs.Slab.{Slab, get}
 use Rattle.conn_machine.specs.declared.conn.Conn.{Conn}
@@ -55,3 +56,24 @@ returns-clause-met g c = λ first base m.
     meets_same c.in_ok-conn.ensures.same
     (meets_accept c.in-Some.client c.in_ok-conn.conn c.args.self.now.conns c.insert_reserved-key.new.self c.insert_reserved-key.result did c.in_ok-conn.ensures.began.link
     (sym (kept c.insert_reserved-key.result) ∙ c.insert_reserved-key.ensures.was_vacant) c.insert_reserved-key.ensures.updates.changed (λ k ne. c.insert_reserved-key.ensures.updates.others k ne ∙ kept k) m)
+
+pub returns-in_err-reserve-clause-unstopped : goal.returns-in_err-reserve-clause-unstopped
+returns-in_err-reserve-clause-unstopped g c = stopless_none (g.W.World.seen c.args.world.now)
+
+pub returns-in_err-client-clause-unstopped : goal.returns-in_err-client-clause-unstopped
+returns-in_err-client-clause-unstopped g c = stopless_same (g.W.World.seen c.args.world.now) (g.W.World.seen c.arrival.new.self) c.in_err-client.ensures.seen
+
+pub returns-in_default-clause-unstopped : goal.returns-in_default-clause-unstopped
+returns-in_default-clause-unstopped g c = let did = rw c.in_default.is at c.in_ok-client.ensures.seen in stopless_same (g.W.World.seen c.args.world.now) (g.W.World.seen c.arrival.new.self) did
+
+pub returns-in_err-conn-clause-unstopped : goal.returns-in_err-conn-clause-unstopped
+returns-in_err-conn-clause-unstopped g c =
+    let did = rw c.in-Some.is at c.in_ok-client.ensures.seen in
+    stopless_then (g.W.World.seen c.args.world.now) (g.W.World.seen c.arrival.new.self) (g.W.World.seen c.begin.new.world) (stopless_came (g.W.World.seen c.args.world.now) (g.W.World.seen c.arrival.new.self) c.in-Some.client did)
+    (stopless_close (g.W.World.seen c.arrival.new.self) c.in-Some.client.link (g.W.World.seen c.begin.new.world) c.in_err-conn.ensures.closed)
+
+pub returns-clause-unstopped : goal.returns-clause-unstopped
+returns-clause-unstopped g c =
+    let did = rw c.in-Some.is at c.in_ok-client.ensures.seen in
+    stopless_then (g.W.World.seen c.args.world.now) (g.W.World.seen c.arrival.new.self) (g.W.World.seen c.begin.new.world) (stopless_came (g.W.World.seen c.args.world.now) (g.W.World.seen c.arrival.new.self) c.in-Some.client did)
+    (stopless_same (g.W.World.seen c.arrival.new.self) (g.W.World.seen c.begin.new.world) c.in_ok-conn.ensures.same)

@@ -6,7 +6,7 @@ use Rattle.link_world.specs.Seen.{Seen}
 use Rattle.desk.specs.Desks.{Desk, Grew}
 use Rattle.worker_loop.specs.Accounts.{Accounts}
 use Rattle.worker_loop.specs.Runs.{Runs}
-use Rattle.worker_loop.specs.Settled.{SameTurn, SettledUnder}
+use Rattle.worker_loop.specs.Settled.{SameTurn, SettledUnder, NoneStopped}
 use Rattle.worker_loop.proofs.Places.{held_from}
 use Rattle.worker_loop.proofs.worker.Worker.serve_all.Given as goal
 
@@ -24,3 +24,4 @@ invariant-loop-key g l =
     × ((k : ℕ) → l.key ≤ k → get l.self.conns k ≡ get l.fn.self.conns k)
     × (l.left ≡ held_from l.fn.self.conns l.key)
     × ((first : Slab Conn) (base : Seen) → Meets first base (g.W.World.seen l.fn.world) l.fn.self.conns → Meets first base (g.W.World.seen l.world) l.self.conns)
+    × NoneStopped (g.W.World.seen l.fn.world) (g.W.World.seen l.world)

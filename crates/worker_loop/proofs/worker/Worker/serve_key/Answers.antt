@@ -1,3 +1,4 @@
+use Rattle.worker_loop.proofs.Stops.{stopless_none, stopless_went, stopless_lost}
 use Rattle.std.proofs.Common.{rules, arith, sym, refl}
 use Rattle.slab.specs.Slab.{with_value}
 use Rattle.conn_service.proofs.Lists.{grew_none}
@@ -120,3 +121,15 @@ returns-in_default-clause-settled g c = settled_vacant c.args.self.now.conns c.a
 
 pub returns-in_default-clause-grew : goal.returns-in_default-clause-grew
 returns-in_default-clause-grew g c = grew_none (g.S.Shared.desk c.args.shared.now).generations
+
+pub returns-in_default-clause-unstopped : goal.returns-in_default-clause-unstopped
+returns-in_default-clause-unstopped g c = stopless_none (g.W.World.seen c.args.world.now)
+
+pub returns-in-Err-clause-unstopped : goal.returns-in-Err-clause-unstopped
+returns-in-Err-clause-unstopped g c = stopless_lost (c.requires.1.tracks c.args.key c.in-Some.conn.now (sym c.in-Some.ensures.value)) (strayed c.in-Err.ensures.lost)
+
+pub returns-else-is_finished-clause-unstopped : goal.returns-else-is_finished-clause-unstopped
+returns-else-is_finished-clause-unstopped g c = stopless_went (c.requires.1.tracks c.args.key c.in-Some.conn.now (sym c.in-Some.ensures.value)) (moved c.in_default-serve.ensures.went)
+
+pub returns-then-is_finished-clause-unstopped : goal.returns-then-is_finished-clause-unstopped
+returns-then-is_finished-clause-unstopped g c = stopless_went (c.requires.1.tracks c.args.key c.in-Some.conn.now (sym c.in-Some.ensures.value)) (moved c.in_default-serve.ensures.went)

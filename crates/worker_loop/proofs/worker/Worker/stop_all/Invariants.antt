@@ -1,3 +1,4 @@
+use Rattle.conn_service.specs.Farewell.{OnlyTells}
 use Rattle.std.proofs.Common.{◌≡◌, ◌<◌, ◌≤◌, ℕ, List, None, true}
 use Rattle.slab.specs.Slab.{Slab, get}
 use Rattle.conn_machine.specs.declared.conn.Conn.{Conn}
@@ -22,3 +23,4 @@ invariant-loop-key g l =
     × ((k : ℕ) → l.key ≤ k → get l.self.conns k ≡ get l.fn.self.conns k)
     × EndsOnly (g.W.World.seen l.fn.world) (g.W.World.seen l.world) l.fn.self.conns
     × ((first : Slab Conn) (base : Seen) → l.all ≡ true → Meets first base (g.W.World.seen l.fn.world) l.fn.self.conns → Meets first base (g.W.World.seen l.world) l.self.conns)
+    × OnlyTells (g.W.World.seen l.fn.world) (g.W.World.seen l.world)

@@ -1,5 +1,7 @@
+use Rattle.conn_service.proofs.Farewells.{tells_none}
 use Rattle.std.proofs.Common.{sym, []}
-use Rattle.worker_loop.proofs.Servings.{step_over, step_lost, stopping_kept, stopping_lost, desk_of, moved, strayed, unasked_went, unasked_lost, ends_went, ends_lost, ends_none}
+use Rattle.worker_loop.proofs.Servings.{step_over, step_lost, stopping_kept, stopping_lost, desk_of, moved, strayed, unasked_went, unasked_lost, ends_none}
+use Rattle.worker_loop.proofs.Stops.{ends_stopped, ends_lost}
 use Rattle.worker_loop.proofs.Accountings.{accounts_over}
 use Rattle.worker_loop.proofs.Meetings.{meets_over}
 use Rattle.worker_loop.proofs.worker.Worker.stop_key.Goals as goal
@@ -35,10 +37,15 @@ returns-clause-met g c = λ first base.
     meets_over c.args.self.now.conns c.try_remove.new.self c.args.key c.requires.3.attends (sym c.in-Some.ensures.value) (c.in_ok-stop.ensures.went (desk_of [])) c.in_ok-stop.ensures.finished c.in-Some.ensures.updates.others
 
 pub returns-in_err-stop-clause-ends : goal.returns-in_err-stop-clause-ends
-returns-in_err-stop-clause-ends g c = ends_lost c.args.self.now.conns c.args.key (sym c.in-Some.ensures.value) (strayed (c.in_err-stop.ensures.lost (desk_of [])))
+returns-in_err-stop-clause-ends g c = ends_lost c.args.self.now.conns c.args.key (sym c.in-Some.ensures.value) (c.requires.3.attends.tracks c.args.key c.in-Some.conn (sym c.in-Some.ensures.value)) (strayed (c.in_err-stop.ensures.lost (desk_of [])))
 
 pub returns-clause-ends : goal.returns-clause-ends
-returns-clause-ends g c = ends_went c.args.self.now.conns c.args.key (sym c.in-Some.ensures.value) (moved (c.in_ok-stop.ensures.went (desk_of [])))
+returns-clause-ends g c =
+    let t = c.requires.3.attends.tracks c.args.key c.in-Some.conn (sym c.in-Some.ensures.value) in
+    ends_stopped c.args.self.now.conns c.args.key (sym c.in-Some.ensures.value) t (moved (c.in_ok-stop.ensures.went (desk_of []))) (c.in_ok-stop.ensures.stopped t.ready.is_open)
 
 pub returns-in_default-clause-ends : goal.returns-in_default-clause-ends
 returns-in_default-clause-ends g c = ends_none (g.W.World.seen c.args.world.now) c.args.self.now.conns
+
+pub returns-in_default-clause-tells : goal.returns-in_default-clause-tells
+returns-in_default-clause-tells g c = tells_none (g.W.World.seen c.args.world.now)

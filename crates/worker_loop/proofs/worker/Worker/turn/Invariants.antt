@@ -6,7 +6,7 @@ use Rattle.link_world.specs.Seen.{Seen}
 use Rattle.desk.specs.Desks.{Desk, Grew}
 use Rattle.worker_loop.specs.Accounts.{Accounts}
 use Rattle.worker_loop.specs.Runs.{Runs}
-use Rattle.worker_loop.specs.Settled.{AllSettled}
+use Rattle.worker_loop.specs.Settled.{AllSettled, NoneStopped}
 use Rattle.worker_loop.proofs.worker.Worker.turn.Given as goal
 
 abbrev pub invariant-loop : goal.invariant-loop
@@ -21,3 +21,4 @@ invariant-loop g l =
     × (slab_len l.fn.self.conns ≤ l.fn.self.links → slab_len l.self.conns ≤ l.self.links)
     × Grew (g.S.Shared.desk l.fn.shared).generations (g.S.Shared.desk l.shared).generations
     × ((first : Slab Conn) (base : Seen) → Meets first base (g.W.World.seen l.fn.world) l.fn.self.conns → Meets first base (g.W.World.seen l.world) l.self.conns)
+    × NoneStopped (g.W.World.seen l.fn.world) (g.W.World.seen l.world)

@@ -1,3 +1,4 @@
+use Rattle.worker_loop.proofs.Stops.{stopless_then}
 use Rattle.conn_service.proofs.Lists.{grew_none}
 use Rattle.worker_loop.proofs.Servings.{runs_none, runs_attends}
 use Rattle.worker_loop.proofs.worker.Worker.welcome.Goals as goal
@@ -25,3 +26,9 @@ returns-in_err-key-clause-grew g c = grew_none (g.S.Shared.desk c.args.shared.no
 
 pub returns-in_default-clause-grew : goal.returns-in_default-clause-grew
 returns-in_default-clause-grew g c = grew_none (g.S.Shared.desk c.args.shared.now).generations
+
+pub returns-clause-unstopped : goal.returns-clause-unstopped
+returns-clause-unstopped g c = stopless_then (g.W.World.seen c.args.world.now) (g.W.World.seen c.accept.new.world) (g.W.World.seen c.serve_key.new.world) c.accept.ensures.unstopped c.serve_key.ensures.unstopped
+
+pub returns-in_err-serve_key-clause-unstopped : goal.returns-in_err-serve_key-clause-unstopped
+returns-in_err-serve_key-clause-unstopped g c = stopless_then (g.W.World.seen c.args.world.now) (g.W.World.seen c.accept.new.world) (g.W.World.seen c.serve_key.new.world) c.accept.ensures.unstopped c.serve_key.ensures.unstopped

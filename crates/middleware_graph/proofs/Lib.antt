@@ -1,0 +1,5 @@
+pub mod Visiting
+pub mod Searching
+pub mod Flattening
+pub mod Judging
+pub mod Sound

@@ -1,0 +1,4 @@
+pub mod Graph
+pub mod States
+pub mod Tables
+pub mod Visits

@@ -1,0 +1,4 @@
+pub mod SearchLemmas
+pub mod HeightLemmas
+pub mod NumberLemmas
+pub mod Rising

@@ -1,0 +1,4 @@
+pub mod Own
+pub mod References
+pub mod Faults
+pub mod Blocked
