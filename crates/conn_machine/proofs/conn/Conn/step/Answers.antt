@@ -1,5 +1,5 @@
 use Rattle.conn_machine.specs.declared.event.ConnEvent.TheVariants as event
-use Rattle.conn_machine.proofs.Events.{event_told, event_server, event_number, server_told}
+use Rattle.conn_machine.proofs.Events.{event_told, event_server, event_number, server_told, dial_told}
 use Rattle.conn_machine.proofs.conn.Conn.step.Goals as goal
 
 pub returns-in-Bytes-clause-client : goal.returns-in-Bytes-clause-client
@@ -124,6 +124,10 @@ returns-in-Dialled-clause-prompt c = λ _. c.dialled.ensures.prompt
 
 pub returns-in-Dialled-clause-server : goal.returns-in-Dialled-clause-server
 returns-in-Dialled-clause-server c = event_server c.args.self.now c.dialled.new.self (event.Dialled c.in-Dialled.link) c.in-Dialled.is c.dialled.ensures.server
+
+pub returns-in-Dialled-clause-reached : goal.returns-in-Dialled-clause-reached
+returns-in-Dialled-clause-reached c = λ prompt steps f r.
+    dial_told c.args.self.now c.dialled.new.self steps c.in-Dialled.link c.in-Dialled.is c.requires.enabled f r (λ a is new. c.dialled.ensures.reached steps a is new r)
 
 pub returns-in-Back-clause-client : goal.returns-in-Back-clause-client
 returns-in-Back-clause-client c = c.back_step.ensures.client
