@@ -1,8 +1,11 @@
 -- What an event tells.
-use Rattle.std.proofs.Common.{◌≡◌, ◌+◌, ◌≤◌, List, [], ◌∷◌, ◌++◌, ℕ, length, sym, ◌∙◌, ap, subst, vec_len}
-use Rattle.conversation.specs.Steps.{Step}
-use Rattle.conn_machine.specs.Events.{step_of, back_step_of, shape_of, IsEnabled, IsBackEnabled, ServerAfter, number_after}
-use Rattle.conn_machine.specs.Reached.{Reached, back_pending_of, pending_to, pending_of}
+use Rattle.std.proofs.Common.{◌≡◌, ◌+◌, ◌≤◌, List, [], ◌∷◌, ◌++◌, ℕ, length, Option, Some, sym, ◌∙◌, ap, subst, vec_len}
+use Rattle.link_world.specs.Log.{dialled}
+use Rattle.conversation.specs.Steps.{Step, happened, IsNew}
+use Rattle.conn_machine.specs.Events.{step_of, back_step_of, dial_step, shape_of, IsEnabled, IsBackEnabled, IsFresh, ServerAfter, number_after}
+use Rattle.conn_machine.specs.Reached.{Reached, Opened, Waits, back_pending_of, pending_to, pending_of, trail_of}
+use Rattle.conn_machine.specs.declared.parts.Aim.{Aim}
+use Rattle.conn_machine.specs.declared.parts.Stage.TheVariants as stage
 use Rattle.conn_machine.specs.declared.event.ConnEvent.{ConnEvent}
 use Rattle.conn_machine.specs.declared.event.ConnEvent.TheVariants as event
 use Rattle.conn_machine.specs.declared.event.BackEvent.{BackEvent}
@@ -10,6 +13,7 @@ use Rattle.conn_machine.specs.declared.event.EventShape.{EventShape}
 use Rattle.conn_machine.specs.declared.event.EventShape.TheVariants as shape
 use Rattle.conn_machine.specs.declared.parts.Current.{Current}
 use Rattle.conn_machine.specs.declared.conn.Conn.{Conn}
+use Rattle.conn_machine.proofs.Opens.{opened_at}
 
 -- the same of an equal event
 pub event_told : (c d : Conn) (steps : List Step) {e : ConnEvent} (v : ConnEvent) → e ≡ v → Reached (steps ++ step_of c v ∷ []) d → Reached (steps ++ step_of c e ∷ []) d
@@ -32,6 +36,16 @@ pub server_told : (c d : Conn) (steps : List Step) {e : ConnEvent} (link : ℕ) 
 server_told c d steps {e} link v is on r =
     let at : IsEnabled (shape_of (event.Back link v)) c = subst (λ (x : ConnEvent). IsEnabled (shape_of x) c) is on in
     event_told c d steps (event.Back link v) is (subst (λ (n : ℕ). Reached (steps ++ back_step_of n (back_pending_of c) v ∷ []) d) (sym at.1) r)
+
+-- a link is dialled to the server that the machine aims at
+pub dial_told : (c d : Conn) (steps : List Step) {e : ConnEvent} (link : ℕ) → e ≡ event.Dialled link → IsEnabled (shape_of e) c → IsFresh e steps → Reached steps c
+    → ((a : Aim) → c.current.aim ≡ Some a → IsNew link steps → Reached (steps ++ happened link (dialled a.server.host a.server.port) ∷ []) d) → Reached (steps ++ step_of c e ∷ []) d
+dial_told c d steps {e} link is on fresh r told =
+    let at : Waits stage.Dial c = subst (λ (x : ConnEvent). IsEnabled (shape_of x) c) is on in
+    let o : Opened steps c.client c.current (trail_of c) c.input.items (pending_of c) c.notes.items c.over stage.Dial = opened_at at r in
+    let new : IsNew link steps = subst (λ (x : ConnEvent). IsFresh x steps) is fresh in
+    event_told c d steps (event.Dialled link) is
+    (subst (λ (x : Option Aim). Reached (steps ++ dial_step link x ∷ []) d) (sym o.stage.holds.aim_is) (told o.stage.holds.aim o.stage.holds.aim_is new))
 
 -- what may come still may, where room was made
 pub still_enabled : (c d : Conn) → d.phase ≡ c.phase → d.stage ≡ c.stage → d.over ≡ c.over → d.current ≡ c.current → pending_of d ≡ pending_of c → vec_len d.input ≡ vec_len c.input

@@ -1,6 +1,6 @@
 -- A link to the server: how it is dialled, and what happens on it.
 use Rattle.std.proofs.Common.{◌≡◌, ◌≢◌, ℕ, ◌≤◌, List, [], ◌∷◌, ◌++◌, length, drop, Option, Some, None, refl, sym, ◌∙◌, ap, subst, Bool, true, false}
-use Rattle.std.specs.List.{AllByRecursion}
+use Rattle.std.specs.List.{flat_map, AllByRecursion}
 use Rattle.std.proofs.lemmas.List.{append-nil}
 use Rattle.ip_net.specs.declared.ip.Ip.{Ip}
 use Rattle.http_wire.specs.declared.message.Request.{Request as HttpRequest}
@@ -16,11 +16,11 @@ use Rattle.conversation.specs.Plans.{Target}
 use Rattle.conversation.specs.Asks.{asks}
 use Rattle.conversation.specs.Steps.{Step, happened, history, IsNew}
 use Rattle.conversation.specs.Turns.{picked, sent, Turn, BackLink, message_to, links_of, IsAt, IsSent, IsUndecided, AnswersBy, IsTold, IsLinkTold}
-use Rattle.conversation.specs.Served.{IsAnswered}
+use Rattle.conversation.specs.Served.{backs_of, IsAnswered}
 use Rattle.conversation.specs.Holding.{told}
 use Rattle.conversation.proofs.Tellings.{told_elsewhere, told_more, history_more, Apart, other_link, failures_happened}
-use Rattle.conversation.proofs.Holdings.{holds_replied}
-use Rattle.conn_machine.specs.Parts.{Trail, Fits, IsAim, IsElse, IsAimedAt, IsDialling, IsExchanging, Passing, issue_plan}
+use Rattle.conversation.proofs.Holdings.{all_both, holds_replied, own_new}
+use Rattle.conn_machine.specs.Parts.{Trail, Fits, IsAim, IsElse, IsAimedAt, IsDialling, IsExchanging, IsFailing, Passing, issue_plan}
 use Rattle.conn_machine.specs.Reached.{Opened}
 use Rattle.conn_machine.specs.declared.parts.Aim.{Aim}
 use Rattle.conn_machine.specs.declared.parts.Asked.{Asked}
@@ -29,6 +29,7 @@ use Rattle.conn_machine.specs.declared.parts.Client.{Client}
 use Rattle.conn_machine.specs.declared.parts.Current.{Current}
 use Rattle.conn_machine.specs.declared.parts.Stage.TheVariants.{Dial, Dialled, Exchange}
 use Rattle.conn_machine.proofs.Opens.{holds_as}
+use Rattle.conn_machine.proofs.Knowns.{unknown_by, nothing_whole}
 use Rattle.conn_machine.proofs.Turnings.{Turning, IsAlike, turning, at_turn, opened_turn}
 
 -- a link that is new isn't one that was dialled before
@@ -66,6 +67,15 @@ all_shown steps l e entry peer (t ∷ done) other h = (record { item = h.0.item;
 
 message_is : (aim : Aim) (target : Target) (r : HttpRequest) → IsAim aim target → message_to target r ≡ forwarded r aim.server aim.pass_host
 message_is aim target r is = rw (← is.host, ← is.port, ← is.pass_host) refl
+
+else_link : (l : ℕ) (o : Option BackLink) → IsElse l o → AllByRecursion (λ (n : ℕ). n ≢ l) (links_of o)
+else_link l None other = tt
+else_link l (Some b) other = (other, tt)
+
+-- none of these requests was on the link
+all_others : (l : ℕ) (done : List Turn) → AllByRecursion (λ (w : Turn). IsElse l w.back) done → AllByRecursion (λ (n : ℕ). n ≢ l) (flat_map backs_of done)
+all_others l [] other = tt
+all_others l (t ∷ done) other = all_both (λ (n : ℕ). n ≢ l) (links_of t.back) (flat_map backs_of done) (else_link l t.back other.0) (all_others l done other.1)
 
 -- the link was dialled
 pub opened_dialled : {steps : List Step} {k : Client} {m : Current} {trail : Trail} {input pending : List ℕ} {waiting : List Note} {over : Bool} (l : ℕ) (aim : Aim) {m' : Current} {trail' : Trail}
@@ -108,7 +118,7 @@ opened_dialled {steps} {k} {m} {trail} {input} {pending} {waiting} {over} l aim 
       turn = v;
       rest = t.rest;
       holds = holds_as (told_elsewhere k.link l steps e away) refl refl refl refl refl refl refl alike.number alike.index
-          (holds_replied v [] (record { index = refl; item = refl; plan = refl; looks = refl; picks = refl; spents = refl }) (sym (append-nil u.reply)) (sym (append-nil pending)) t.holds);
+          (holds_replied v [] (record { index = refl; item = refl; plan = refl; looks = refl; picks = refl; spents = refl }) (sym (append-nil u.reply)) (sym (append-nil pending)) (λ c d. absurd (unknown_by v b undecided.unfinished refl (λ r asked. nothing_whole r.method) d)) (own_new t.done u v l (ap links_of x.6) refl (all_others l t.done apart)) t.holds);
       sound = record {
         all = all_shown steps l e k.entry k.peer t.done apart t.sound.all;
         one = record {
@@ -148,6 +158,7 @@ opened_dialled {steps} {k} {m} {trail} {input} {pending} {waiting} {over} l aim 
         number = sym link_is;
         untaken = refl;
         ungiven = refl;
+        sound = refl;
         apart = subst (λ (n : ℕ). AllByRecursion (λ (y : Turn). IsElse n y.back) t.done) (sym link_is) apart;
       };
     } in
@@ -212,6 +223,7 @@ opened_exchange {steps} {k} {m} {trail} {input} {pending} {waiting} {over} aim r
         exchanged = exchanged;
         ends_is = λ (e : false ≡ true). absurd (let f : ⊥ = cc in f);
         fails_is = λ (e : false ≡ true). absurd (let f : ⊥ = cc in f);
+        failing = subst (λ (s : BackState). IsFailing s d.link.faults) (sym waiting_is) d.sound;
         passing = subst (λ (p : Option HttpReply). Passing p d.r u [] pending) (sym none) (d.aimed.open_at.undecided.cause, d.aimed.open_at.undecided.status, d.aimed.open_at.undecided.reply, d.aimed.open_at.undecided.unfinished, d.aimed.open_at.none);
         apart = subst (λ (n : ℕ). AllByRecursion (λ (y : Turn). IsElse n y.back) o.done) (sym link_same) d.apart;
       };

@@ -1,5 +1,5 @@
 -- What happens on a link to the server, and how an exchange ends.
-use Rattle.std.proofs.Common.{◌≡◌, ◌≢◌, ℕ, ◌≤◌, List, [], ◌∷◌, ◌++◌, length, take, drop, Option, Some, None, refl, sym, ◌∙◌, ap, subst, Bool, true, false}
+use Rattle.std.proofs.Common.{◌≡◌, ◌≢◌, ◌⊎◌, inl, ℕ, ◌≤◌, List, [], ◌∷◌, ◌++◌, length, take, drop, Option, Some, None, refl, sym, ◌∙◌, ap, subst, Bool, true, false}
 use Rattle.std.specs.List.{AllByRecursion}
 use Rattle.std.proofs.lemmas.List.{append-nil}
 use Rattle.ip_net.specs.declared.ip.Ip.{Ip}
@@ -13,9 +13,10 @@ use Rattle.back_machine.specs.Exchanges.{BackView, Exchanged, Receives}
 use Rattle.conversation.specs.Plans.{Plan}
 use Rattle.conversation.specs.Steps.{Step, happened, history}
 use Rattle.conversation.specs.Turns.{sent, Turn, BackLink, message_to, links_of, IsSent, Answers, AnswersBy, IsTold, IsLinkTold}
+use Rattle.conversation.specs.Holding.{IsReplyKnown}
 use Rattle.conversation.proofs.Tellings.{told_elsewhere, history_more, failures_happened, client_apart}
-use Rattle.conversation.proofs.Holdings.{holds_replied, given_more, taken_more, ends_more}
-use Rattle.conn_machine.specs.Parts.{Trail, Fits, IsElse, IsExchanging, Passing}
+use Rattle.conversation.proofs.Holdings.{holds_replied, own_same, given_more, taken_more, ends_more}
+use Rattle.conn_machine.specs.Parts.{Trail, Fits, IsElse, IsExchanging, IsFailing, Passing}
 use Rattle.conn_machine.specs.Reached.{Opened, pending_to}
 use Rattle.conn_machine.specs.declared.parts.Asked.{Asked}
 use Rattle.conn_machine.specs.declared.parts.Client.{Client}
@@ -23,6 +24,7 @@ use Rattle.conn_machine.specs.declared.parts.Current.{Current}
 use Rattle.conn_machine.specs.declared.parts.Stage.TheVariants.{Exchange}
 use Rattle.conn_machine.proofs.Opens.{holds_as}
 use Rattle.conn_machine.proofs.Exchanges.{all_shown}
+use Rattle.conn_machine.proofs.Knowns.{known_still}
 use Rattle.conn_machine.proofs.Turnings.{Turning, IsAlike, turning, at_turn, opened_turn}
 
 -- a request on its way has the answer that its cause says
@@ -32,7 +34,7 @@ on_its_way None entry peer r row b t content pending is received h =
     subst (λ (c : Cause). AnswersBy c entry peer t) (sym h.0) (sent, record { cause = h.0; stage = (r, row, b, is); status = h.1; reply = h.2; unfinished = h.3 })
 on_its_way (Some a) entry peer r row b t content pending is received h =
     subst (λ (c : Cause). AnswersBy c entry peer t) (sym h.0)
-    (r, row, b, is, record { answer = a; content = content; held = []; gave = subst (λ (l : List ℕ). HasReply r.method (given b.events) a l) (sym (append-nil content)) received; status = h.1; text = h.2; all = λ (e : t.whole ≡ true). absurd (let n : false ≡ true = sym h.3 ∙ e in let f : ⊥ = cc in f) })
+    (r, row, b, is, record { answer = a; content = content; held = []; gave = subst (λ (l : List ℕ). HasReply r.method (given b.events) a l) (sym (append-nil content)) received; status = h.1; text = h.2; all = λ (e : t.whole ≡ true). absurd (let n : false ≡ true = sym h.3 ∙ e in let f : ⊥ = cc in f); sound = λ (e : t.whole ≡ true). absurd (let n : false ≡ true = sym h.3 ∙ e in let f : ⊥ = cc in f) })
 
 -- the request after one more event on its link
 abbrev pub moved : Turn → BackLink → ℕ → Cause → List ℕ → Turn
@@ -72,10 +74,11 @@ pub opened_event : {steps : List Step} {k : Client} {m : Current} {trail : Trail
     → IsAlike m m' → m'.router ≡ m.router → m'.status ≡ status → m'.cause ≡ cause → m'.link ≡ m.link → m'.back ≡ Some back → pending' ≡ pending ++ more
     → (o : Opened steps k m trail input pending waiting over Exchange)
     → Exchanged (message_to (o.stage.turn.plan.target o.stage.holds.row) o.stage.holds.r) o.stage.holds.r.method (taken (o.stage.holds.link.events ++ e ∷ [])) (given (o.stage.holds.link.events ++ e ∷ [])) content over_ fault_ back
-    → (over_ ≡ true → ends (o.stage.holds.link.events ++ e ∷ []) ≢ []) → (fault_ ≡ true → o.stage.holds.link.faults ≢ [])
+    → (over_ ≡ true → ends (o.stage.holds.link.events ++ e ∷ []) ≢ []) → (fault_ ≡ true → o.stage.holds.link.faults ≢ []) → IsFailing back.state o.stage.holds.link.faults
     → Passing back.reply o.stage.holds.r (moved o.stage.turn (longer o.stage.holds.link e) status cause more) content pending'
+    → (IsReplyKnown (moved o.stage.turn (longer o.stage.holds.link e) status cause more) → IsReplyKnown o.stage.turn ⊎ (pending' ≢ []))
     → Opened (steps ++ happened m.link e ∷ []) k m' trail input pending' waiting over Exchange
-opened_event {steps} {k} {m} {trail} {input} {pending} {waiting} {over} e status cause more back content over_ fault_ {m'} {pending'} alike router status_is cause_is link_same back_is in_pending o exchanged ends_is fails_is passing =
+opened_event {steps} {k} {m} {trail} {input} {pending} {waiting} {over} e status cause more back content over_ fault_ {m'} {pending'} alike router status_is cause_is link_same back_is in_pending o exchanged ends_is fails_is failing passing knows =
     let t : Turning steps k m trail input pending waiting over (IsExchanging k.entry k.peer m pending o.done) = turning o o.stage in
     let x : IsExchanging k.entry k.peer m pending o.done o.stage.turn = o.stage.holds in
     let u : Turn = o.stage.turn in
@@ -88,7 +91,7 @@ opened_event {steps} {k} {m} {trail} {input} {pending} {waiting} {over} e status
       turn = v;
       rest = t.rest;
       holds = holds_as (told_elsewhere k.link m.link steps e (away t)) refl refl refl refl refl refl refl alike.number alike.index
-          (holds_replied v more (record { index = refl; item = refl; plan = refl; looks = refl; picks = refl; spents = refl }) refl in_pending t.holds);
+          (holds_replied v more (record { index = refl; item = refl; plan = refl; looks = refl; picks = refl; spents = refl }) refl in_pending (λ c. knows) (own_same o.done u v (sym (ap links_of x.sent.back))) t.holds);
       sound = record {
         all = all_shown steps m.link e k.entry k.peer o.done x.apart t.sound.all;
         one = record {
@@ -133,6 +136,7 @@ opened_event {steps} {k} {m} {trail} {input} {pending} {waiting} {over} e status
         exchanged = exchanged;
         ends_is = ends_is;
         fails_is = fails_is;
+        failing = failing;
         passing = passing;
         apart = subst (λ (n : ℕ). AllByRecursion (λ (y : Turn). IsElse n y.back) o.done) (sym link_same) x.apart;
       };
@@ -166,4 +170,6 @@ opened_back_took {steps} {k} {m} {trail} {input} {pending} {waiting} {over} n ol
     subst (λ (p : List ℕ). Opened (steps ++ happened m.link (took (take n p)) ∷ []) k m' trail input pending waiting over Exchange) (sym (ap pending_to old_is))
     (opened_event e u.status u.cause [] back x.content x.ended x.failed alike router (status ∙ sym t.tied.status) (cause ∙ sym t.tied.cause) link_same back_is (sym (append-nil pending)) o after
     (λ (q : x.ended ≡ true). ends_more x.link.events e (x.ends_is q)) x.fails_is
-    (subst (λ (p : Option HttpReply). Passing p x.r (moved u (longer x.link e) u.status u.cause []) x.content pending) (sym reply_is) (passing_on x.back.reply x.r u (longer x.link e) x.content pending x.passing)))
+    (subst (λ (b : BackView). IsFailing b.state x.link.faults) (sym value) (subst (λ (b : BackView). IsFailing b.state x.link.faults) same x.failing))
+    (subst (λ (p : Option HttpReply). Passing p x.r (moved u (longer x.link e) u.status u.cause []) x.content pending) (sym reply_is) (passing_on x.back.reply x.r u (longer x.link e) x.content pending x.passing))
+    (λ d. inl (known_still u (moved u (longer x.link e) u.status u.cause []) x.link (longer x.link e) (λ w. w) refl refl x.sent.back (given_more x.link.events e ∙ append-nil (given x.link.events)) d)))

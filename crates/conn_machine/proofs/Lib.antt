@@ -5,6 +5,7 @@ pub mod Turnings
 pub mod Tells
 pub mod Walkings
 pub mod Exchanges
+pub mod Knowns
 pub mod Happenings
 pub mod Passings
 pub mod Prompts

@@ -4,18 +4,18 @@ use Rattle.std.proofs.lemmas.List.{length-append, take-append-le, drop-append-le
 use Rattle.ip_net.specs.declared.ip.Ip.{Ip}
 use Rattle.link_world.specs.declared.note.Note.{Note}
 use Rattle.link_world.specs.declared.note.EndCause.{EndCause}
-use Rattle.link_world.specs.Log.{gave, gave_end, took}
+use Rattle.link_world.specs.Log.{gave, gave_end, took, taken}
 use Rattle.conversation.specs.Steps.{Step, happened, failed, stopped, history, failures, stops}
 use Rattle.conversation.specs.Asks.{IsItem}
 use Rattle.conversation.specs.Turns.{Stage as TurnStage, Turn}
-use Rattle.conversation.specs.Served.{EndHolds}
-use Rattle.conversation.specs.Holding.{Told, Holds}
+use Rattle.conversation.specs.Served.{IfLast, EndHolds}
+use Rattle.conversation.specs.Holding.{Told, Holds, IsReplyKnown, IsUntaken}
 use Rattle.conversation.proofs.Tellings.{told_happened, told_failed, told_stopped, sound_happened, sound_failed, sound_stopped}
-use Rattle.conversation.proofs.Holdings.{holds_gave, holds_over, holds_took}
+use Rattle.conversation.proofs.Holdings.{holds_gave, holds_over, holds_forgot, holds_took}
 use Rattle.http_wire.specs.declared.message.Request.{Request as HttpRequest}
 use Rattle.http_wire.specs.declared.message.Reply.{Reply as HttpReply}
 use Rattle.conn_machine.specs.Parts.{Trail, AtStage, AtTurn, IsOpenAt, IsUnroutedAt, IsAimedAt, Passing}
-use Rattle.conn_machine.specs.Reached.{Reached, Kept, Opened, PhaseHolds, ending_note, trail_of, pending_of, Waits}
+use Rattle.conn_machine.specs.Reached.{Reached, Kept, Opened, PhaseHolds, ending_note, trail_of, pending_of, open_over, Waits}
 use Rattle.conn_machine.specs.declared.parts.Client.{Client}
 use Rattle.conn_machine.specs.declared.parts.Current.{Current}
 use Rattle.conn_machine.specs.declared.parts.Stage.{Stage}
@@ -41,7 +41,7 @@ opened {steps} {c} is r =
       done = r.done;
       last = r.last;
       rest = r.rest;
-      holds = holds_as refl refl refl (sym p.1) refl refl (sym (ap (ending_note c.client.link) is)) refl refl (sym p.0) r.kept.holds;
+      holds = holds_as refl refl refl (sym p.1) refl refl (sym (ap (ending_note c.client.link) is)) (sym (ap (λ (q : Phase). open_over q c.over) is)) refl (sym p.0) r.kept.holds;
       sound = r.kept.sound;
       tied = r.kept.tied;
       kept = p.2;
@@ -51,9 +51,9 @@ opened {steps} {c} is r =
 pub reached_open : {steps : List Step} (d : Conn) → d.phase ≡ Open
     → Opened steps d.client d.current (trail_of d) d.input.items (pending_of d) d.notes.items d.over d.stage → Reached steps d
 reached_open {steps} d is o =
-    let k : Kept steps d.client d.current (trail_of d) d.notes.items (ending_note d.client.link d.phase) d.over o.done o.last o.rest (pending_of d) = record {
+    let k : Kept steps d.client d.current (trail_of d) d.notes.items (ending_note d.client.link d.phase) (open_over d.phase d.over) o.done o.last o.rest (pending_of d) = record {
       next = d.current.index;
-      holds = holds_as refl refl refl refl refl refl (ap (ending_note d.client.link) is) refl refl refl o.holds;
+      holds = holds_as refl refl refl refl refl refl (ap (ending_note d.client.link) is) (ap (λ (q : Phase). open_over q d.over) is) refl refl o.holds;
       sound = o.sound;
       tied = o.tied;
     } in
@@ -76,7 +76,7 @@ reached_broken {steps} d {pending} is o = record {
   left = pending;
   kept = record {
     next = d.current.index;
-    holds = holds_as refl refl refl refl refl refl (ap (ending_note d.client.link) is) refl refl refl o.holds;
+    holds = holds_as refl refl refl refl refl refl (ap (ending_note d.client.link) is) (ap (λ (q : Phase). open_over q d.over) is) refl refl (holds_forgot o.holds);
     sound = o.sound;
     tied = o.tied;
   };
@@ -94,7 +94,7 @@ reached_over {steps} d cause {pending} is o ending = record {
   left = pending;
   kept = record {
     next = d.current.index;
-    holds = holds_as refl refl refl refl refl refl (ap (ending_note d.client.link) is) refl refl refl o.holds;
+    holds = holds_as refl refl refl refl refl refl (ap (ending_note d.client.link) is) (ap (λ (q : Phase). open_over q d.over) is) refl refl (holds_forgot o.holds);
     sound = o.sound;
     tied = o.tied;
   };
@@ -167,13 +167,13 @@ opened_gave {steps} {k} {m} {input} {pending} {at} piece {input'} is o = record 
 }
 
 pub opened_over : {steps : List Step} {k : Client} {m : Current} {trail : Trail} {input pending : List ℕ} {waiting : List Note} {over : Bool} {at : Stage}
-    → Opened steps k m trail input pending waiting over at
+    → (o : Opened steps k m trail input pending waiting over at) → IfLast (λ u. IsReplyKnown u → IsUntaken (taken (history k.link steps)) o.done u) o.last
     → Opened (steps ++ happened k.link gave_end ∷ []) k m trail input pending waiting true at
-opened_over {steps} {k} o = record {
+opened_over {steps} {k} o untaken = record {
   done = o.done;
   last = o.last;
   rest = o.rest;
-  holds = holds_as (told_happened k.link steps gave_end) refl refl refl refl refl refl refl refl refl (holds_over o.holds);
+  holds = holds_as (told_happened k.link steps gave_end) refl refl refl refl refl refl refl refl refl (holds_over o.holds untaken);
   sound = sound_happened k.link steps gave_end k.entry k.peer o.done o.last o.holds.arrived o.sound;
   tied = o.tied;
   kept = o.kept;
@@ -242,6 +242,7 @@ stage_took Dialled k m input pending done last rest n pending' is h = turn_as h 
   number = h.holds.number;
   untaken = h.holds.untaken;
   ungiven = h.holds.ungiven;
+  sound = h.holds.sound;
   apart = h.holds.apart;
 })
 stage_took Exchange k m input pending done last rest n pending' is h = turn_as h (record {
@@ -258,6 +259,7 @@ stage_took Exchange k m input pending done last rest n pending' is h = turn_as h
   exchanged = h.holds.exchanged;
   ends_is = h.holds.ends_is;
   fails_is = h.holds.fails_is;
+  failing = h.holds.failing;
   passing = passing_took h.holds.back.reply h.holds.r h.turn h.holds.content n pending pending' is h.holds.passing;
   apart = h.holds.apart;
 })

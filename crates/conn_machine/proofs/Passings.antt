@@ -13,21 +13,22 @@ use Rattle.link_world.specs.declared.note.Cause.TheVariants as causes
 use Rattle.link_world.specs.declared.note.EndCause.TheVariants as ending
 use Rattle.link_world.specs.Log.{LinkEvent, gave, gave_end, given, taken, ends}
 use Rattle.back_machine.specs.Replies.{IsReplyAt, HasReply, HasNoReplyYet, IsWhole, IsShort, content_length}
-use Rattle.back_machine.specs.Exchanges.{BackView, Exchanged, Receives, IsOpen, InUse, Ends, IsCut, StateHolds}
+use Rattle.back_machine.specs.Exchanges.{BackView, Exchanged, Receives, IsOpen, InUse, Ends, IsCut, StateHolds, broken_by}
 use Rattle.back_machine.specs.declared.state.BackState.{BackState}
 use Rattle.back_machine.specs.declared.state.BackState.TheVariants as state
 use Rattle.back_machine.specs.declared.state.BackCause.{BackCause}
 use Rattle.back_machine.specs.declared.state.BackCause.TheVariants as why
 use Rattle.conversation.specs.Asks.{Ask, asks, refusal}
 use Rattle.conversation.specs.Steps.{Step, happened, failed, history, failures}
-use Rattle.conversation.specs.Turns.{sent, Turn, BackLink, closes, ends_after, message_to, links_of, IsSent, IsOwnText, Answers, AnswersBy, IsTold, IsLinkTold}
+use Rattle.conversation.specs.Turns.{sent, Turn, BackLink, HasWholeReply, closes, ends_after, message_to, links_of, IsSent, IsOwnText, Answers, AnswersBy, IsTold, IsLinkTold}
 use Rattle.conversation.specs.Served.{IsAnswered, IsCutBy, IfLast, EndHolds}
-use Rattle.conversation.specs.Holding.{told}
+use Rattle.conversation.specs.Holding.{told, IsReplyKnown}
 use Rattle.conversation.proofs.Tellings.{told_elsewhere, history_more, failures_happened, told_failed, told_more, apart_failed, history_failed, failures_failed}
-use Rattle.conversation.proofs.Holdings.{holds_replied, given_more, taken_more, ends_end}
-use Rattle.conn_machine.specs.Parts.{Trail, TiedBy, Fits, IsElse, IsExchanging, Passing, end_by, refused_status}
+use Rattle.conversation.proofs.Completions.{whole_not_short, whole_not_none}
+use Rattle.conversation.proofs.Holdings.{holds_replied, own_same, holds_forgot, given_more, taken_more, ends_end}
+use Rattle.conn_machine.specs.Parts.{Trail, TiedBy, Fits, IsElse, IsExchanging, IsFailing, Passing, end_by, refused_status}
 use Rattle.conn_machine.specs.Relays.{Relays, new_head, IsVersion, IsOutcome, lost_cause, heard_status, heard_cause}
-use Rattle.conn_machine.specs.Reached.{Reached, Opened, PhaseHolds, ending_note, closed_by, trail_of}
+use Rattle.conn_machine.specs.Reached.{Reached, Opened, PhaseHolds, ending_note, closed_by, trail_of, open_over}
 use Rattle.conn_machine.specs.declared.parts.Asked.{Asked}
 use Rattle.conn_machine.specs.declared.parts.Asked.TheVariants.{Nothing, Request, Refused}
 use Rattle.conn_machine.specs.declared.parts.Client.{Client}
@@ -38,8 +39,9 @@ use Rattle.conn_machine.specs.declared.parts.Stage.TheVariants.{Exchange, Reply}
 use Rattle.conn_machine.specs.declared.passing.Outcome.TheVariants as out
 use Rattle.conn_machine.specs.declared.conn.Conn.{Conn}
 use Rattle.conn_machine.proofs.Opens.{holds_as}
+use Rattle.conn_machine.proofs.Knowns.{known_still}
 use Rattle.conn_machine.proofs.Exchanges.{all_shown}
-use Rattle.conn_machine.proofs.Turnings.{Turning, IsAlike, turning, at_turn, opened_turn, ends_fit, own_text_of}
+use Rattle.conn_machine.proofs.Turnings.{Turning, IsAlike, turning, at_turn, opened_turn, ends_fit, own_text_of, own_some, text_some}
 use Rattle.conn_machine.proofs.Happenings.{moved, longer, told_link, away, longer_sent, opened_event, passing_on, on_its_way}
 
 -- the request with what its link and its reply have become
@@ -66,14 +68,15 @@ pub turned : {steps : List Step} {k : Client} {m : Current} {trail : Trail} {inp
     (t : Turning steps k m trail input pending waiting over P) → t.turn.back ≡ Some old → b.link ≡ old.link
     → told k.link steps' ≡ told k.link steps → AllByRecursion (IsAnswered steps' k.entry k.peer) t.done
     → IsAlike m m' → m'.router ≡ m.router → m'.status ≡ status → m'.cause ≡ cause → pending' ≡ pending ++ more
-    → Answers k.entry k.peer (moving t.turn b status cause more whole) → IsTold steps' b → Q (moving t.turn b status cause more whole)
+    → Answers k.entry k.peer (moving t.turn b status cause more whole) → IsTold steps' b
+    → (over ≡ true → IsReplyKnown (moving t.turn b status cause more whole) → IsReplyKnown t.turn ⊎ (pending' ≢ [])) → Q (moving t.turn b status cause more whole)
     → Turning steps' k m' trail input pending' waiting over Q
-turned {steps} {k} {m} {trail} {input} old b status cause more whole Q {m'} {pending'} t back_is link_is told_is all alike router status_is cause_is in_pending answers shown q = record {
+turned {steps} {k} {m} {trail} {input} old b status cause more whole Q {m'} {pending'} t back_is link_is told_is all alike router status_is cause_is in_pending answers shown knows q = record {
   done = t.done;
   turn = moving t.turn b status cause more whole;
   rest = t.rest;
   holds = holds_as told_is refl refl refl refl refl refl refl alike.number alike.index
-      (holds_replied (moving t.turn b status cause more whole) more (record { index = refl; item = refl; plan = refl; looks = refl; picks = refl; spents = refl }) refl in_pending t.holds);
+      (holds_replied (moving t.turn b status cause more whole) more (record { index = refl; item = refl; plan = refl; looks = refl; picks = refl; spents = refl }) refl in_pending knows (own_same t.done t.turn (moving t.turn b status cause more whole) (ap (λ (n : ℕ). n ∷ []) link_is ∙ sym (ap links_of back_is))) t.holds);
   sound = record { all = all; one = record { item = t.sound.one.item; answers = answers; shown = shown } };
   tied = record {
     index = t.tied.index ∙ sym alike.index;
@@ -93,9 +96,27 @@ turned {steps} {k} {m} {trail} {input} old b status cause more whole Q {m'} {pen
   has = q;
 }
 
+-- what is said of the client's end is forgotten
+abbrev turning_forgot : {steps : List Step} {k : Client} {m : Current} {trail : Trail} {input pending : List ℕ} {waiting : List Note} {over : Bool} {P : Turn → Type 0}
+    → Turning steps k m trail input pending waiting over P → Turning steps k m trail input pending waiting false P
+turning_forgot t = record {
+  done = t.done;
+  turn = t.turn;
+  rest = t.rest;
+  holds = holds_forgot t.holds;
+  sound = t.sound;
+  tied = t.tied;
+  kept = t.kept;
+  pinned = t.pinned;
+  rest_is = t.rest_is;
+  fits = t.fits;
+  asked = t.asked;
+  has = t.has;
+}
+
 -- a call found no memory
 pub reached_halted : {steps : List Step} {P : Turn → Type 0} {input pending : List ℕ} (d : Conn) → d.phase ≡ Broken
-    → Turning steps d.client d.current (trail_of d) input pending d.notes.items d.over P → Reached steps d
+    → Turning steps d.client d.current (trail_of d) input pending d.notes.items false P → Reached steps d
 reached_halted {steps} {P} {input} {pending} d is t = record {
   done = t.done;
   last = Some t.turn;
@@ -103,7 +124,7 @@ reached_halted {steps} {P} {input} {pending} d is t = record {
   left = pending;
   kept = record {
     next = d.current.index;
-    holds = holds_as refl refl refl refl refl (ap (λ (b : Bool). closed_by b d.client.link (Some t.turn)) t.pinned) (ap (ending_note d.client.link) is) refl refl refl t.holds;
+    holds = holds_as refl refl refl refl refl (ap (λ (b : Bool). closed_by b d.client.link (Some t.turn)) t.pinned) (ap (ending_note d.client.link) is) (ap (λ (q : Phase). open_over q d.over) is) refl refl t.holds;
     sound = t.sound;
     tied = subst (λ (b : Bool). TiedBy b d.current (trail_of d) (Some t.turn)) (sym t.pinned) t.tied;
   };
@@ -153,7 +174,7 @@ still laws None entry peer r row b u piece content pending is received h =
 still laws (Some a) entry peer r row b u piece content pending is received h =
     let m : (held : List ℕ) × HasReply r.method (given b.events ++ piece) a (content ++ held) = more_reply laws r.method (given b.events) piece a content received in
     subst (λ (c : Cause). AnswersBy c entry peer (moving u (longer b (gave piece)) u.status u.cause [] false)) (sym h.0)
-    (r, row, longer b (gave piece), is, record { answer = a; content = content; held = m.0; gave = subst (λ (l : List ℕ). HasReply r.method l a (content ++ m.0)) (sym (given_more b.events (gave piece))) m.1; status = h.1; text = append-nil u.reply ∙ h.2; all = λ (e : false ≡ true). no_truth e })
+    (r, row, longer b (gave piece), is, record { answer = a; content = content; held = m.0; gave = subst (λ (l : List ℕ). HasReply r.method l a (content ++ m.0)) (sym (given_more b.events (gave piece))) m.1; status = h.1; text = append-nil u.reply ∙ h.2; all = λ (e : false ≡ true). no_truth e; sound = λ (e : false ≡ true). no_truth e })
 
 longer_told : (steps : List Step) (l : ℕ) (e : LinkEvent) (b : BackLink) → b.link ≡ l → IsTold steps b → IsTold (steps ++ happened l e ∷ []) (longer b e)
 longer_told steps l e b is shown = record {
@@ -168,7 +189,7 @@ longer_told steps l e b is shown = record {
 -- the link gave bytes that found no memory
 pub halted_gave : {steps : List Step} {k : Client} {m : Current} {trail : Trail} {input pending : List ℕ} {waiting : List Note} {over : Bool} (piece : List ℕ) {m' : Current} → Laws
     → IsAlike m m' → m'.router ≡ m.router → m'.status ≡ m.status → m'.cause ≡ m.cause
-    → Opened steps k m trail input pending waiting over Exchange → Turning (steps ++ happened m.link (gave piece) ∷ []) k m' trail input pending waiting over (λ t. Unit {0})
+    → Opened steps k m trail input pending waiting over Exchange → Turning (steps ++ happened m.link (gave piece) ∷ []) k m' trail input pending waiting false (λ t. Unit {0})
 halted_gave {steps} {k} {m} {trail} {input} {pending} {waiting} {over} piece {m'} laws alike router status cause o =
     let t : Turning steps k m trail input pending waiting over (IsExchanging k.entry k.peer m pending o.done) = turning o o.stage in
     let x : IsExchanging k.entry k.peer m pending o.done o.stage.turn = o.stage.holds in
@@ -179,11 +200,11 @@ halted_gave {steps} {k} {m} {trail} {input} {pending} {waiting} {over} piece {m'
     x.sent.message ∙ ap (λ (l : List ℕ). l ++ x.sent.unsent) (sym (taken_more x.link.events (gave piece) ∙ append-nil (taken x.link.events))) in
     let is : IsSent k.entry k.peer x.r x.row b (moving u b u.status u.cause [] false) =
     longer_sent k.entry k.peer x.r x.row x.link u (moving u b u.status u.cause [] false) (gave piece) x.sent.unsent x.sent refl refl refl refl refl refl refl refl message in
-    turned x.link b u.status u.cause [] false (λ t. Unit {0}) t x.sent.back refl (told_elsewhere k.link m.link steps (gave piece) (away t))
+    turned x.link b u.status u.cause [] false (λ t. Unit {0}) (turning_forgot t) x.sent.back refl (told_elsewhere k.link m.link steps (gave piece) (away t))
     (all_shown steps m.link (gave piece) k.entry k.peer o.done x.apart t.sound.all)
     alike router (status ∙ sym t.tied.status) (cause ∙ sym t.tied.cause) (sym (append-nil pending))
     (still laws x.back.reply k.entry k.peer x.r x.row x.link u piece x.content pending is x.exchanged.received x.passing)
-    (longer_told steps m.link (gave piece) x.link x.number shown) tt
+    (longer_told steps m.link (gave piece) x.link x.number shown) (λ (c : false ≡ true). no_truth c) tt
 
 -- the status and the cause that this reply makes
 abbrev pub HeardBy : Option HttpReply → ℕ → Cause → ℕ → Cause → Type 0
@@ -231,6 +252,68 @@ version_fits (Refused cause) ask r version fits is h = absurd (let d : refusal (
 heard_as : (q : Option HttpReply) (s s' : ℕ) (c c' : Cause) (status : ℕ) (cause : Cause) → s ≡ s' → c ≡ c' → HeardBy q s c status cause → HeardBy q s' c' status cause
 heard_as q s s' c c' status cause a b h = rw (← a, ← b) h
 
+some_fault : (xs : List (Unit {0})) → xs ++ tt ∷ [] ≢ []
+some_fault [] is = cc
+some_fault (x ∷ xs) is = cc
+
+-- the link of an exchange that goes on hasn't failed
+failing_open : (s : BackState) (faults : List (Unit {0})) → IsOpen s → IsFailing s faults → faults ≡ []
+failing_open state.Waiting faults open_ h = h
+failing_open state.HeadRead faults open_ h = h
+failing_open state.Done faults open_ h = absurd open_
+failing_open (state.Broken c) faults open_ h = absurd open_
+
+-- nor has it where nothing but bytes came
+failing_none : (s : BackState) (method g content : List ℕ) (e : Bool) (b : BackView) {faults : List (Unit {0})} → faults ≡ [] → StateHolds s method g content e false b → IsFailing s faults
+failing_none state.Waiting method g content e b none h = none
+failing_none state.HeadRead method g content e b none h = none
+failing_none state.Done method g content e b none h = none
+failing_none (state.Broken why.Failed) method g content e b none h = no_truth h.0
+failing_none (state.Broken why.Ended) method g content e b none h = none
+failing_none (state.Broken why.Bad) method g content e b none h = none
+
+failing_ended : (s : BackState) (faults : List (Unit {0})) → IsFailing s faults → IsFailing (broken_by why.Ended s) faults
+failing_ended state.Waiting faults h = h
+failing_ended state.HeadRead faults h = h
+failing_ended state.Done faults h = h
+failing_ended (state.Broken c) faults h = h
+
+failing_failed : (s : BackState) (faults : List (Unit {0})) → IsOpen s → IsFailing (broken_by why.Failed s) (faults ++ tt ∷ [])
+failing_failed state.Waiting faults open_ = some_fault faults
+failing_failed state.HeadRead faults open_ = some_fault faults
+failing_failed state.Done faults open_ = absurd open_
+failing_failed (state.Broken c) faults open_ = absurd open_
+
+-- a reply that goes on is short of content
+open_short : (s : BackState) (method g content : List ℕ) (e f : Bool) (b : BackView) (a : HttpReply) → IsOpen s → StateHolds s method g content e f b → b.reply ≡ Some a → IsShort a content
+open_short state.Waiting method g content e f b a open_ h is = absurd (let n : None ≡ Some a = sym h.1.none ∙ is in let f : ⊥ = cc in f)
+open_short state.HeadRead method g content e f b a open_ h is = let same : h.1.reply ≡ a = (let s : Some h.1.reply ≡ Some a = sym h.1.reply_is ∙ is in cc) in subst (λ (y : HttpReply). IsShort y content) same h.1.short
+open_short state.Done method g content e f b a open_ h is = absurd open_
+open_short (state.Broken c) method g content e f b a open_ h is = absurd open_
+
+none_behind : (xs ys : List ℕ) → xs ++ ys ≡ [] → ys ≡ []
+none_behind [] ys is = is
+none_behind (x ∷ xs) ys is = absurd (let f : ⊥ = cc in f)
+
+-- the piece that makes a reply whole adds bytes to it
+relayed_some : Laws → (o q : Option HttpReply) (method g piece content fresh : List ℕ) (version : ℕ) (close : Bool) → Receives method g content o → ((a : HttpReply) → o ≡ Some a → IsShort a content) → Receives method (g ++ piece) (content ++ fresh) q
+    → HasWholeReply method (g ++ piece) → new_head (is_some o) q version close ++ fresh ≢ []
+relayed_some laws o None method g piece content fresh version close before short after whole = λ none. whole_not_none method (g ++ piece) after.0 whole
+relayed_some laws None (Some a) method g piece content fresh version close before short after whole = text_some a version close fresh
+relayed_some laws (Some a) (Some c) method g piece content fresh version close before short after whole = λ none.
+    let same : a ≡ c = (laws.one method (g ++ piece) a c before.head after.head (laws.stays method g piece a before.head before.at) after.at).0 in
+    let more : content ++ fresh ≡ content = ap (λ (l : List ℕ). content ++ l) none ∙ append-nil content in
+    whole_not_short method (g ++ piece) c (content ++ fresh) after (subst (IsShort c) (sym more) (subst (λ (y : HttpReply). IsShort y content) same (short a refl))) whole
+
+-- so where all of the reply is known then, either it was, or bytes were added
+heard_known : (r : HttpRequest) (u : Turn) (b : BackLink) (status : ℕ) (cause : Cause) (more : List ℕ) {pending' : List ℕ} → u.ask ≡ asks r → IsReplyKnown (moved u b status cause more)
+    → (HasWholeReply r.method (given b.events) → pending' ≢ []) → IsReplyKnown u ⊎ (pending' ≢ [])
+heard_known r u b status cause more asked (inl whole) some = inl (inl whole)
+heard_known r u b status cause more asked (inr (q, c, asked', is, whole)) some =
+    let same : c ≡ b = (let s : Some c ≡ Some b = sym is in cc) in
+    let request : q ≡ r = (let s : asks q ≡ asks r = sym asked' ∙ asked in cc) in
+    inr (some (subst (λ (x : HttpRequest). HasWholeReply x.method (given b.events)) request (subst (λ (y : BackLink). HasWholeReply q.method (given y.events)) same whole)))
+
 -- the link gave bytes
 pub opened_heard : {steps : List Step} {k : Client} {m : Current} {trail : Trail} {input pending : List ℕ} {waiting : List Note} {over : Bool} (piece : List ℕ) (old back : BackView) (version : ℕ) (close : Bool) (n : ℕ) (out out' : List ℕ) {m' : Current} {pending' : List ℕ} → Laws
     → IsAlike m m' → m'.router ≡ m.router → m'.link ≡ m.link → m'.back ≡ Some back → m.back ≡ Some old
@@ -255,17 +338,21 @@ opened_heard {steps} {k} {m} {trail} {input} {pending} {waiting} {over} piece ol
     let closing : close ≡ closes u = close_is ∙ ap is_some (sym (ends_fit m.index m.asked u.ask t.asked) ∙ ap (λ (i : ℕ). ends_after i u.ask) (sym t.tied.index)) in
     let passing : Passing old.reply x.r u x.content pending = subst (λ (y : BackView). Passing y.reply x.r u x.content pending) same x.passing in
     opened_event (gave piece) m'.status m'.cause more back (x.content ++ y.0) false false alike router refl refl link_same back_is pending_is o after
-    (λ (e : false ≡ true). no_truth e) (λ (e : false ≡ true). no_truth e)
+    (λ (e : false ≡ true). no_truth e) (λ (e : false ≡ true). no_truth e) (failing_none back.state x.r.method _ _ false back (failing_open old.state x.link.faults open_is (subst (λ (y : BackView). IsFailing y.state x.link.faults) same x.failing)) after.state)
     (passing_more laws old.reply back.reply x.r u (longer x.link (gave piece)) m'.status m'.cause (given x.link.events) piece x.content y.0 pending pending' version close before.received y.1.received passing
     (version_fits m.asked u.ask x.r version t.asked x.sent.won.asked version_is) closing
     (heard_as back.reply m.status u.status m.cause u.cause m'.status m'.cause (sym t.tied.status) (sym t.tied.cause) (heard_by back.reply m.status m.cause status_is cause_is)) pending_is)
+    (λ d. heard_known x.r u (longer x.link (gave piece)) m'.status m'.cause more x.sent.won.asked d
+    (λ w none. relayed_some laws old.reply back.reply x.r.method (given x.link.events) piece x.content y.0 version close before.received (λ a is. open_short old.state x.r.method (given x.link.events) x.content x.ended x.failed old a open_is before.state is) y.1.received
+    (subst (HasWholeReply x.r.method) (given_more x.link.events (gave piece)) w)
+    (none_behind pending more (sym pending_is ∙ none))))
 
 -- the link gave its end
 pub opened_back_end : {steps : List Step} {k : Client} {m : Current} {trail : Trail} {input pending : List ℕ} {waiting : List Note} {over : Bool} (old back : BackView) {m' : Current}
-    → IsAlike m m' → m'.router ≡ m.router → m'.status ≡ m.status → m'.cause ≡ m.cause → m'.link ≡ m.link → m'.back ≡ Some back → m.back ≡ Some old → back.reply ≡ old.reply
+    → IsAlike m m' → m'.router ≡ m.router → m'.status ≡ m.status → m'.cause ≡ m.cause → m'.link ≡ m.link → m'.back ≡ Some back → m.back ≡ Some old → back.reply ≡ old.reply → back.state ≡ broken_by why.Ended old.state
     → ((message method took gave content : List ℕ) (ended failed : Bool) → Exchanged message method took gave content ended failed old → Exchanged message method took gave content true failed back)
     → Opened steps k m trail input pending waiting over Exchange → Opened (steps ++ happened m.link gave_end ∷ []) k m' trail input pending waiting over Exchange
-opened_back_end {steps} {k} {m} {trail} {input} {pending} {waiting} {over} old back {m'} alike router status cause link_same back_is old_is reply_same step o =
+opened_back_end {steps} {k} {m} {trail} {input} {pending} {waiting} {over} old back {m'} alike router status cause link_same back_is old_is reply_same state_is step o =
     let t : Turning steps k m trail input pending waiting over (IsExchanging k.entry k.peer m pending o.done) = turning o o.stage in
     let x : IsExchanging k.entry k.peer m pending o.done o.stage.turn = o.stage.holds in
     let u : Turn = o.stage.turn in
@@ -276,15 +363,13 @@ opened_back_end {steps} {k} {m} {trail} {input} {pending} {waiting} {over} old b
     let reply_is : back.reply ≡ x.back.reply = reply_same ∙ sym (ap (λ (b : BackView). b.reply) same) in
     opened_event gave_end u.status u.cause [] back x.content true x.failed alike router (status ∙ sym t.tied.status) (cause ∙ sym t.tied.cause) link_same back_is (sym (append-nil pending)) o after
     (λ (q : true ≡ true). ends_end x.link.events) x.fails_is
+    (subst (λ (s : BackState). IsFailing s x.link.faults) (sym state_is) (failing_ended old.state x.link.faults (subst (λ (y : BackView). IsFailing y.state x.link.faults) same x.failing)))
     (subst (λ (p : Option HttpReply). Passing p x.r (moved u (longer x.link gave_end) u.status u.cause []) x.content pending) (sym reply_is) (passing_on x.back.reply x.r u (longer x.link gave_end) x.content pending x.passing))
+    (λ d. inl (known_still u (moved u (longer x.link gave_end) u.status u.cause []) x.link (longer x.link gave_end) (λ w. w) refl refl x.sent.back (given_more x.link.events gave_end ∙ append-nil (given x.link.events)) d))
 
 -- the link failed
 abbrev pub faulty : BackLink → BackLink
 faulty b = record b { faults = b.faults ++ tt ∷ [] }
-
-some_fault : (xs : List (Unit {0})) → xs ++ tt ∷ [] ≢ []
-some_fault [] is = cc
-some_fault (x ∷ xs) is = cc
 
 fault_else : (steps : List Step) (l : ℕ) (o : Option BackLink) → IsElse l o → IsLinkTold steps o → IsLinkTold (steps ++ failed l ∷ []) o
 fault_else steps l None other h = tt
@@ -312,11 +397,11 @@ passing_as None r u b content pending h = (h.0, h.1, append-nil u.reply ∙ h.2,
 passing_as (Some a) r u b content pending h = (h.0, h.1, append-nil u.reply ∙ h.2, refl)
 
 pub opened_back_failed : {steps : List Step} {k : Client} {m : Current} {trail : Trail} {input pending : List ℕ} {waiting : List Note} {over : Bool} (old back : BackView) {m' : Current}
-    → IsAlike m m' → m'.router ≡ m.router → m'.status ≡ m.status → m'.cause ≡ m.cause → m'.link ≡ m.link → m'.back ≡ Some back → m.back ≡ Some old → back.reply ≡ old.reply
+    → IsAlike m m' → m'.router ≡ m.router → m'.status ≡ m.status → m'.cause ≡ m.cause → m'.link ≡ m.link → m'.back ≡ Some back → m.back ≡ Some old → back.reply ≡ old.reply → IsOpen old.state → back.state ≡ broken_by why.Failed old.state
     → ((message method took gave content : List ℕ) (ended failed : Bool) → Exchanged message method took gave content ended failed old → Exchanged message method took gave content ended true back)
     → Opened steps k m trail input pending waiting over Exchange → Opened (steps ++ failed m.link ∷ []) k m' trail input pending waiting over Exchange
 unfolding turned
-opened_back_failed {steps} {k} {m} {trail} {input} {pending} {waiting} {over} old back {m'} alike router status cause link_same back_is old_is reply_same step o =
+opened_back_failed {steps} {k} {m} {trail} {input} {pending} {waiting} {over} old back {m'} alike router status cause link_same back_is old_is reply_same open_is state_is step o =
     let t : Turning steps k m trail input pending waiting over (IsExchanging k.entry k.peer m pending o.done) = turning o o.stage in
     let x : IsExchanging k.entry k.peer m pending o.done o.stage.turn = o.stage.holds in
     let u : Turn = o.stage.turn in
@@ -335,6 +420,7 @@ opened_back_failed {steps} {k} {m} {trail} {input} {pending} {waiting} {over} ol
     alike router (status ∙ sym t.tied.status) (cause ∙ sym t.tied.cause) (sym (append-nil pending))
     (on_its_way back.reply k.entry k.peer x.r x.row b v x.content pending is after.received passing)
     (faulty_told steps m.link x.link x.number shown)
+    (λ c d. inl (known_still u v x.link b (λ (w : false ≡ true). no_truth w) refl refl x.sent.back refl d))
     (record {
       back = back;
       back_is = back_is;
@@ -349,6 +435,7 @@ opened_back_failed {steps} {k} {m} {trail} {input} {pending} {waiting} {over} ol
       exchanged = after;
       ends_is = x.ends_is;
       fails_is = λ (e : true ≡ true). some_fault x.link.faults;
+      failing = subst (λ (s : BackState). IsFailing s b.faults) (sym state_is) (failing_failed old.state x.link.faults open_is);
       passing = passing;
       apart = subst (λ (n : ℕ). AllByRecursion (λ (y : Turn). IsElse n y.back) o.done) (sym link_same) x.apart;
     }) in
@@ -358,14 +445,14 @@ state_at : (s : BackState) (b : BackView) (method g content : List ℕ) (e f : B
 state_at s b method g content e f is h = subst (λ (y : BackState). StateHolds y method g content e f b) is h
 
 -- the reply is whole
-whole_answers : (o : Option HttpReply) (a : HttpReply) (entry : List ℕ) (peer : Ip) (r : HttpRequest) (row : ℕ) (b : BackLink) (u : Turn) (content pending : List ℕ) → o ≡ Some a → IsWhole a content
+whole_answers : (o : Option HttpReply) (a : HttpReply) (entry : List ℕ) (peer : Ip) (r : HttpRequest) (row : ℕ) (b : BackLink) (u : Turn) (content pending : List ℕ) → o ≡ Some a → IsWhole a content → b.faults ≡ []
     → IsSent entry peer r row b (moving u b u.status u.cause [] true) → Receives r.method (given b.events) content o → Passing o r u content pending
     → Answers entry peer (moving u b u.status u.cause [] true)
-whole_answers None a entry peer r row b u content pending reply_is whole is received h = absurd (let f : ⊥ = cc in f)
-whole_answers (Some c) a entry peer r row b u content pending reply_is whole is received h =
+whole_answers None a entry peer r row b u content pending reply_is whole sound is received h = absurd (let f : ⊥ = cc in f)
+whole_answers (Some c) a entry peer r row b u content pending reply_is whole sound is received h =
     let same : a ≡ c = cc in
     subst (λ (y : Cause). AnswersBy y entry peer (moving u b u.status u.cause [] true)) (sym h.0)
-    (r, row, b, is, record { answer = c; content = content; held = []; gave = subst (λ (l : List ℕ). HasReply r.method (given b.events) c l) (sym (append-nil content)) received; status = h.1; text = append-nil u.reply ∙ h.2; all = λ (e : true ≡ true). subst (λ (y : HttpReply). IsWhole y content) same whole })
+    (r, row, b, is, record { answer = c; content = content; held = []; gave = subst (λ (l : List ℕ). HasReply r.method (given b.events) c l) (sym (append-nil content)) received; status = h.1; text = append-nil u.reply ∙ h.2; all = λ (e : true ≡ true). subst (λ (y : HttpReply). IsWhole y content) same whole; sound = λ (e : true ≡ true). sound })
 
 pub opened_whole : {steps : List Step} {k : Client} {m : Current} {trail : Trail} {input pending : List ℕ} {waiting : List Note} {over : Bool} → IsOutcome out.Whole m.back → Opened steps k m trail input pending waiting over Exchange → Opened steps k m trail input pending waiting over Reply
 opened_whole {steps} {k} {m} {trail} {input} {pending} {waiting} {over} done_is o =
@@ -380,7 +467,8 @@ opened_whole {steps} {k} {m} {trail} {input} {pending} {waiting} {over} done_is 
     let w : Turning steps k m trail input pending waiting over (λ (y : Turn). y.whole ≡ true) =
     turned x.link x.link u.status u.cause [] true (λ (y : Turn). y.whole ≡ true) t x.sent.back refl refl t.sound.all
     (record { asked = refl; size = refl; issue = refl; pinned = refl; index = refl; number = refl }) refl (sym t.tied.status) (sym t.tied.cause) (sym (append-nil pending))
-    (whole_answers x.back.reply e.reply k.entry k.peer x.r x.row x.link u x.content pending e.reply_is e.whole is x.exchanged.received x.passing) shown refl in
+    (whole_answers x.back.reply e.reply k.entry k.peer x.r x.row x.link u x.content pending e.reply_is e.whole (subst (λ (s : BackState). IsFailing s x.link.faults) (ap (λ (y : BackView). y.state) same ∙ done_is.2) x.failing) is x.exchanged.received x.passing) shown
+    (λ c d. inl (inr (x.r, x.link, x.sent.won.asked, x.sent.back, (e.reply, x.content, subst (Receives x.r.method (given x.link.events) x.content) e.reply_is x.exchanged.received, e.whole)))) refl in
     opened_turn Reply w (at_turn w)
 
 -- the reply was begun and will not be whole
@@ -390,13 +478,13 @@ cut_why why.Failed b link method g content e f h some es fs = inl (fs h.0)
 cut_why why.Ended b link method g content e f h some es fs = inr (es h.0)
 cut_why why.Bad b link method g content e f h some es fs = absurd (some h.1)
 
--- what has come of its content is short
-cut_short : (c : BackCause) (b : BackView) (o : Option HttpReply) (method g content : List ℕ) (e f : Bool) → b.reply ≡ o → o ≢ None → StateHolds (state.Broken c) method g content e f b → Receives method g content o
-    → (a : HttpReply) × HasReply method g a content × IsShort a content
-cut_short c b None method g content e f is some h got = absurd (some refl)
-cut_short why.Failed b (Some a) method g content e f is some h got = (a, got, subst (IsCut content) is h.1)
-cut_short why.Ended b (Some a) method g content e f is some h got = (a, got, subst (IsCut content) is h.1)
-cut_short why.Bad b (Some a) method g content e f is some h got = absurd (some (sym is ∙ h.1))
+-- what has come of its content is short, and spelled
+cut_short : (c : BackCause) (b : BackView) (o : Option HttpReply) (r : HttpRequest) (u : Turn) (g content pending : List ℕ) (e f : Bool) → b.reply ≡ o → o ≢ None → StateHolds (state.Broken c) r.method g content e f b → Receives r.method g content o → Passing o r u content pending
+    → (a : HttpReply) × HasReply r.method g a content × IsShort a content × (u.reply ≡ reply_text a r.version (closes u) ++ content)
+cut_short c b None r u g content pending e f is some h got p = absurd (some refl)
+cut_short why.Failed b (Some a) r u g content pending e f is some h got p = (a, got, subst (IsCut content) is h.1, p.2)
+cut_short why.Ended b (Some a) r u g content pending e f is some h got p = (a, got, subst (IsCut content) is h.1, p.2)
+cut_short why.Bad b (Some a) r u g content pending e f is some h got p = absurd (some (sym is ∙ h.1))
 
 cut_begun : (o : Option HttpReply) (r : HttpRequest) (u : Turn) (content pending : List ℕ) → o ≢ None → Passing o r u content pending → (u.cause ≡ causes.Passed) × (u.whole ≡ false)
 cut_begun None r u content pending some h = absurd (some refl)
@@ -409,10 +497,10 @@ cut_ends {steps} {k} {m} {trail} {input} {pending} {waiting} {over} events faile
     let some : x.back.reply ≢ None = subst (λ (y : BackView). y.reply ≢ None) (sym same) cut.4 in
     let h : StateHolds (state.Broken cut.1) x.r.method (given x.link.events) x.content x.ended x.failed x.back =
     state_at (state.Broken cut.1) x.back x.r.method (given x.link.events) x.content x.ended x.failed (ap (λ (y : BackView). y.state) same ∙ cut.3) x.exchanged.state in
-    let short : (a : HttpReply) × HasReply x.r.method (given x.link.events) a x.content × IsShort a x.content =
-    cut_short cut.1 x.back x.back.reply x.r.method (given x.link.events) x.content x.ended x.failed refl some h x.exchanged.received in
+    let short : (a : HttpReply) × HasReply x.r.method (given x.link.events) a x.content × IsShort a x.content × (o.stage.turn.reply ≡ reply_text a x.r.version (closes o.stage.turn) ++ x.content) =
+    cut_short cut.1 x.back x.back.reply x.r o.stage.turn (given x.link.events) x.content pending x.ended x.failed refl some h x.exchanged.received x.passing in
     let begun : (o.stage.turn.cause ≡ causes.Passed) × (o.stage.turn.whole ≡ false) = cut_begun x.back.reply x.r o.stage.turn x.content pending some x.passing in (
-      subst (IfLast (IsCutBy m.link)) (sym o.stage.last_is) (record { begun = begun.0; unfinished = begun.1; back = x.link; back_is = x.sent.back; number = x.number; why = cut_why cut.1 x.back x.link x.r.method (given x.link.events) x.content x.ended x.failed h some x.ends_is x.fails_is; request = x.r; asked = x.sent.won.asked; answer = short.0; content = x.content; came = short.1; short = short.2 }),
+      subst (IfLast (IsCutBy m.link)) (sym o.stage.last_is) (record { begun = begun.0; unfinished = begun.1; back = x.link; back_is = x.sent.back; number = x.number; why = cut_why cut.1 x.back x.link x.r.method (given x.link.events) x.content x.ended x.failed h some x.ends_is x.fails_is; request = x.r; asked = x.sent.won.asked; answer = short.0; content = x.content; came = short.1; short = short.2; text = short.3 }),
       last_some o.last o.stage.turn o.stage.last_is,
     )
   where
@@ -423,14 +511,15 @@ cut_ends {steps} {k} {m} {trail} {input} {pending} {waiting} {over} events faile
 lost_answers : (c : BackCause) (b : BackView) (entry : List ℕ) (peer : Ip) (r : HttpRequest) (row : ℕ) (link : BackLink) (u : Turn) (number : ℕ) (text content : List ℕ) (e f : Bool)
     → StateHolds (state.Broken c) r.method (given link.events) content e f b → HasNoReplyYet r.method (given link.events)
     → (e ≡ true → ends link.events ≢ []) → (f ≡ true → link.faults ≢ []) → link.link ≡ number
+    → IsFailing (state.Broken c) link.faults
     → IsSent entry peer r row link (moving u link 502 (lost_cause c number) text true) → IsOwnText 502 (closes u) (u.reply ++ text)
     → Answers entry peer (moving u link 502 (lost_cause c number) text true)
-lost_answers why.Failed b entry peer r row link u number text content e f h none es fs number_is is own =
+lost_answers why.Failed b entry peer r row link u number text content e f h none es fs number_is failing is own =
     ((r, row, link, is, number_is, fs h.0, none), record { status_is = refl; text = own; whole = refl })
-lost_answers why.Ended b entry peer r row link u number text content e f h none es fs number_is is own =
-    ((r, row, link, is, number_is, inr (es h.0, none)), record { status_is = refl; text = own; whole = refl })
-lost_answers why.Bad b entry peer r row link u number text content e f h none es fs number_is is own =
-    ((r, row, link, is, number_is, inl h.0), record { status_is = refl; text = own; whole = refl })
+lost_answers why.Ended b entry peer r row link u number text content e f h none es fs number_is failing is own =
+    ((r, row, link, is, number_is, failing, inr (es h.0, none)), record { status_is = refl; text = own; whole = refl })
+lost_answers why.Bad b entry peer r row link u number text content e f h none es fs number_is failing is own =
+    ((r, row, link, is, number_is, failing, inl h.0), record { status_is = refl; text = own; whole = refl })
 
 pub opened_no_reply : {steps : List Step} {k : Client} {m : Current} {trail : Trail} {input pending : List ℕ} {waiting : List Note} {over : Bool} (c : BackCause) (close : Bool) (text : List ℕ) {m' : Current} {pending' : List ℕ}
     → IsAlike m m' → m'.router ≡ m.router → m'.status ≡ 502 → m'.cause ≡ lost_cause c m.link → pending' ≡ text
@@ -454,5 +543,5 @@ opened_no_reply {steps} {k} {m} {trail} {input} {pending} {waiting} {over} c clo
     let w : Turning steps k m' trail input pending' waiting over (λ (y : Turn). y.whole ≡ true) =
     turned x.link x.link 502 (lost_cause c m.link) text true (λ (y : Turn). y.whole ≡ true) t x.sent.back refl refl t.sound.all alike router status cause
     (in_pending ∙ sym (ap (λ (l : List ℕ). l ++ text) p.4))
-    (lost_answers c x.back k.entry k.peer x.r x.row x.link u m.link text x.content x.ended x.failed h received.0 x.ends_is x.fails_is x.number is own_is) shown refl in
+    (lost_answers c x.back k.entry k.peer x.r x.row x.link u m.link text x.content x.ended x.failed h received.0 x.ends_is x.fails_is x.number (subst (λ (s : BackState). IsFailing s x.link.faults) (ap (λ (y : BackView). y.state) same ∙ lost.2) x.failing) is own_is) shown (λ d e. inr (λ nothing. own_some 502 close text own (sym in_pending ∙ nothing))) refl in
     opened_turn Reply w (at_turn w)

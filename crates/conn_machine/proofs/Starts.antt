@@ -13,7 +13,7 @@ use Rattle.conversation.specs.Steps.{Step, happened}
 use Rattle.conversation.specs.Asks.{IsItem}
 use Rattle.conversation.specs.Served.{IsHeadPart}
 use Rattle.conversation.proofs.Tellings.{told_happened}
-use Rattle.conversation.proofs.Holdings.{holds_came}
+use Rattle.conversation.proofs.Holdings.{holds_came, holds_forgot, ended_ends}
 use Rattle.conn_machine.specs.Parts.{Trail, TiedBy, Fits, IsFound, AtStage}
 use Rattle.conn_machine.specs.Reached.{Reached, Opened, PhaseHolds, ending_note, closed_by, trail_of, pending_of}
 use Rattle.conn_machine.specs.declared.parts.Asked.{Asked}
@@ -61,7 +61,7 @@ pub reached_client : {steps : List Step} (d : Conn) → d.phase ≡ Over ByClien
     → Opened steps d.client d.current (trail_of d) d.input.items (pending_of d) d.notes.items d.over Head → Reached steps d
 reached_client {steps} d is over part o =
     reached_over d ByClient is o
-    (o.holds.closes over, o.stage.none, o.stage.last_is, o.kept, inl (subst IsHeadPart (whole ∙ sym o.stage.rest_is) (record { unfinished = part.unfinished; continues = part.continues })))
+    (ended_ends (o.holds.closes over), o.stage.none, o.stage.last_is, o.kept, inl (subst IsHeadPart (whole ∙ sym o.stage.rest_is) (record { unfinished = part.unfinished; continues = part.continues })))
   where
     whole : take 16384 d.input.items ≡ d.input.items
     whole = short_take d.input.items part.room
@@ -109,7 +109,7 @@ reached_given_up {steps} {c} none r = record {
   last = r.last;
   rest = r.rest;
   left = r.left;
-  kept = record { next = r.kept.next; holds = holds_as refl refl refl refl refl refl (sym none) refl refl refl r.kept.holds; sound = r.kept.sound; tied = r.kept.tied };
+  kept = record { next = r.kept.next; holds = holds_as refl refl refl refl refl refl (sym none) refl refl refl (holds_forgot r.kept.holds); sound = r.kept.sound; tied = r.kept.tied };
   phase = tt;
 }
 

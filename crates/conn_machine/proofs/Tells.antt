@@ -14,7 +14,7 @@ use Rattle.conversation.specs.Holding.{told, Holds, Sound}
 use Rattle.conversation.proofs.Tellings.{told_happened, sound_happened}
 use Rattle.conversation.proofs.Holdings.{all_both, holds_told, holds_closed, holds_ended, end_told}
 use Rattle.conn_machine.specs.Parts.{Trail, TiedBy, note_by}
-use Rattle.conn_machine.specs.Reached.{Reached, PhaseHolds, ending_note, closed_by, trail_of, IsUnended, IsRequestNote, EndsBy}
+use Rattle.conn_machine.specs.Reached.{Reached, PhaseHolds, ending_note, closed_by, trail_of, open_over, IsUnended, IsRequestNote, EndsBy}
 use Rattle.conn_machine.specs.declared.parts.Client.{Client}
 use Rattle.conn_machine.specs.declared.parts.Current.{Current}
 use Rattle.conn_machine.specs.declared.parts.Phase.{Phase}
@@ -60,19 +60,19 @@ unpinned_tied false m trail last is = tt
 -- the note of the last request is told
 pub reached_open_told : {steps : List Step} {c : Conn} (d : Conn) (cause : EndCause) (note : Note) → c.phase ≡ Over cause → d.phase ≡ Over cause
     → c.notes.items ≡ [] → c.current.pinned ≡ true → note ≡ note_by c.client.link c.current c.looks.items c.picks.items c.backs.items
-    → d.client ≡ c.client → d.current.pinned ≡ false → d.current.number ≡ c.current.number → d.notes ≡ c.notes → d.over ≡ c.over
+    → d.client ≡ c.client → d.current.pinned ≡ false → d.current.number ≡ c.current.number → d.notes ≡ c.notes
     → Reached steps c → Reached (steps ++ happened c.client.link (noted note) ∷ []) d
-reached_open_told {steps} {c} d cause note is is' none pinned note_is client unpinned number notes_is over r = record {
+reached_open_told {steps} {c} d cause note is is' none pinned note_is client unpinned number notes_is r = record {
   done = r.done;
   last = r.last;
   rest = r.rest;
   left = r.left;
   kept = record {
     next = r.kept.next;
-    holds = subst (λ (k : Client). Holds (told k.link (steps ++ happened c.client.link (noted note) ∷ [])) k.link k.entry k.peer r.done r.last r.rest r.left d.notes.items (closed_by d.current.pinned k.link r.last) (ending_note k.link d.phase) d.over d.current.number r.kept.next) (sym client)
+    holds = subst (λ (k : Client). Holds (told k.link (steps ++ happened c.client.link (noted note) ∷ [])) k.link k.entry k.peer r.done r.last r.rest r.left d.notes.items (closed_by d.current.pinned k.link r.last) (ending_note k.link d.phase) (open_over d.phase d.over) d.current.number r.kept.next) (sym client)
         (holds_as (told_happened c.client.link steps (noted note)) refl refl refl (ap (λ (v : Vec Note Global). v.items) notes_is)
         (ap (λ (b : Bool). closed_by b c.client.link r.last) unpinned ∙ last_note c.current.pinned c.client.link c.current (trail_of c) r.last pinned r.kept.tied ∙ ap (λ (n : Note). n ∷ []) (sym note_is))
-        (ap (ending_note c.client.link) is') over number refl
+        (ap (ending_note c.client.link) is') (ap (λ (q : Phase). open_over q d.over) is' ∙ sym (ap (λ (q : Phase). open_over q c.over) is)) number refl
         (holds_closed note none (holds_as refl refl refl refl refl (sym (ap (λ (b : Bool). closed_by b c.client.link r.last) pinned)) (sym (ap (ending_note c.client.link) is)) refl refl refl r.kept.holds)));
     sound = subst (λ (k : Client). Sound (steps ++ happened c.client.link (noted note) ∷ []) k.entry k.peer r.done r.last) (sym client)
         (sound_happened c.client.link steps (noted note) c.client.entry c.client.peer r.done r.last r.kept.holds.arrived r.kept.sound);
@@ -95,7 +95,7 @@ reached_end_told {steps} {c} cause note is none unpinned note_is r = record {
   kept = record {
     next = r.kept.next;
     holds = holds_as (told_happened c.client.link steps (noted note)) refl refl refl refl refl (ap (λ (n : Note). n ∷ []) (sym note_is)) refl refl refl
-        (holds_ended note none (holds_as refl refl refl refl refl refl (sym (ap (ending_note c.client.link) is)) refl refl refl r.kept.holds));
+        (holds_ended note none (holds_as refl refl refl refl refl refl (sym (ap (ending_note c.client.link) is)) (sym (ap (λ (q : Phase). open_over q c.over) is)) refl refl r.kept.holds));
     sound = sound_happened c.client.link steps (noted note) c.client.entry c.client.peer r.done r.last r.kept.holds.arrived r.kept.sound;
     tied = r.kept.tied;
   };

@@ -1,12 +1,15 @@
 -- A pinned request: how it gets its router and its reply, and how it leaves.
-use Rattle.std.proofs.Common.{◌≡◌, ◌≢◌, inr, ℕ, ◌+◌, ◌≤◌, List, [], ◌∷◌, ◌++◌, length, take, drop, Option, Some, None, refl, sym, ◌∙◌, ap, subst, Bool, true, false, not, if◌then◌else◌}
+use Rattle.std.proofs.Common.{◌≡◌, ◌≢◌, inl, inr, ℕ, ◌+◌, ◌≤◌, List, [], ◌∷◌, ◌++◌, length, take, drop, Option, Some, None, refl, sym, ◌∙◌, ap, subst, Bool, true, false, not, if◌then◌else◌, arith}
 use Rattle.std.specs.List.{AllByRecursion}
 use Rattle.std.specs.Prelude.{is_some, nat_le}
 use Rattle.std.proofs.Common.{Vec}
 use Rattle.std.specs.declared.alloc.Global.{Global}
 use Rattle.std.proofs.lemmas.List.{append-nil}
 use Rattle.ip_net.specs.declared.ip.Ip.{Ip}
+use Rattle.http_wire.specs.Own.{content_of}
+use Rattle.http_wire.specs.Spelling.{reply_text}
 use Rattle.http_wire.specs.declared.message.Request.{Request as HttpRequest}
+use Rattle.http_wire.specs.declared.message.Reply.{Reply as HttpReply}
 use Rattle.link_world.specs.declared.note.Note.{Note}
 use Rattle.link_world.specs.declared.note.Look.{Look as LookNote}
 use Rattle.link_world.specs.declared.note.NodePick.{NodePick}
@@ -20,12 +23,12 @@ use Rattle.conversation.specs.Plans.{Plan, IsWinner}
 use Rattle.conversation.specs.Steps.{Step, pinned, history, failures, stops}
 use Rattle.conversation.specs.Asks.{IsItem, IsHead, judged, Ask, asks, faulty, unserved, broken, large, refusal, name_of}
 use Rattle.conversation.specs.Turns.{Stage as TurnStage, unrouted, routed, Turn, note_of, closes, end_of, ends_after, Routes, Answers, AnswersBy, AnswersOwn, IsOwnText, IsUndecided, IsUnrouted}
-use Rattle.conversation.specs.Served.{of_last, notes_of, IsKept, EndHolds, IsAnswered}
-use Rattle.conversation.specs.Holding.{told, Holds, Sound}
+use Rattle.conversation.specs.Served.{of_last, notes_of, IsKept, EndedWithin, EndHolds, IsAnswered}
+use Rattle.conversation.specs.Holding.{told, Holds, Sound, EndedIn}
 use Rattle.conversation.proofs.Tellings.{told_pinned, sound_pinned}
-use Rattle.conversation.proofs.Holdings.{all_both, cut_at, holds_pinned, holds_replied, holds_done, fresh_turn}
+use Rattle.conversation.proofs.Holdings.{all_both, cut_at, holds_pinned, holds_replied, holds_done, ended_ends, fresh_turn}
 use Rattle.conn_machine.specs.Parts.{Trail, Tied, TiedBy, Fits, refused_status, FindsRow, IsRoute, issue_plan, end_by, note_by, AtStage, AtTurn, IsAim, IsOpenAt, IsUnroutedAt, IsAimedAt}
-use Rattle.conn_machine.specs.Reached.{Reached, Opened, PhaseHolds, ending_note, closed_by, trail_of, pending_of}
+use Rattle.conn_machine.specs.Reached.{Reached, Opened, PhaseHolds, ending_note, closed_by, trail_of, pending_of, open_over}
 use Rattle.conn_machine.specs.declared.pins.Routed.{Routed}
 use Rattle.conn_machine.specs.declared.pins.Routed.TheVariants as route
 use Rattle.conn_machine.specs.declared.parts.Asked.{Asked}
@@ -202,7 +205,7 @@ opened_won {steps} {k} {m} {trail} {input} {pending} {waiting} {over} row aim {m
       turn = v;
       rest = t.rest;
       holds = holds_as refl refl refl refl refl refl refl refl alike.number alike.index
-          (holds_replied v [] (record { index = refl; item = refl; plan = refl; looks = refl; picks = refl; spents = refl }) (sym (append-nil u.reply)) (sym (append-nil pending)) t.holds);
+          (holds_replied v [] (record { index = refl; item = refl; plan = refl; looks = refl; picks = refl; spents = refl }) (sym (append-nil u.reply)) (sym (append-nil pending)) (λ c d. inl d) (λ d. d) t.holds);
       sound = record { all = t.sound.all; one = record { item = t.sound.one.item; answers = subst (λ (c : Cause). AnswersBy c k.entry k.peer v) (sym t.has.undecided.cause) (routed, undecided); shown = t.sound.one.shown } };
       tied = record {
         index = t.tied.index ∙ sym alike.index;
@@ -233,11 +236,11 @@ abbrev pub replied : Turn → ℕ → Cause → List ℕ → Turn
 replied t status cause text = record t { status = status; cause = cause; reply = text; whole = true }
 
 pub opened_replied : {steps : List Step} {k : Client} {m : Current} {trail : Trail} {input pending : List ℕ} {waiting : List Note} {over : Bool} {at : TurnStage} (status : ℕ) (cause : Cause) (text : List ℕ) {m' : Current} {pending' : List ℕ}
-    → IsAlike m m' → m'.router ≡ m.router → m'.status ≡ status → m'.cause ≡ cause → pending' ≡ text
+    → IsAlike m m' → m'.router ≡ m.router → m'.status ≡ status → m'.cause ≡ cause → pending' ≡ text → text ≢ []
     → (t : Turning steps k m trail input pending waiting over (IsOpenAt k.entry k.peer m pending at))
     → Answers k.entry k.peer (replied t.turn status cause text)
     → Opened steps k m' trail input pending' waiting over Reply
-opened_replied {steps} {k} {m} {trail} {input} {pending} {waiting} {over} status cause text {m'} {pending'} alike router status_is cause_is in_pending t answers =
+opened_replied {steps} {k} {m} {trail} {input} {pending} {waiting} {over} status cause text {m'} {pending'} alike router status_is cause_is in_pending some t answers =
     let u : Turn = t.turn in
     let v : Turn = replied u status cause text in
     let w : Turning steps k m' trail input pending' waiting over (λ (x : Turn). x.whole ≡ true) = record {
@@ -245,7 +248,7 @@ opened_replied {steps} {k} {m} {trail} {input} {pending} {waiting} {over} status
       turn = v;
       rest = t.rest;
       holds = holds_as refl refl refl refl refl refl refl refl alike.number alike.index
-          (holds_replied v text (record { index = refl; item = refl; plan = refl; looks = refl; picks = refl; spents = refl }) (sym (ap (λ (l : List ℕ). l ++ text) t.has.undecided.reply)) (in_pending ∙ sym (ap (λ (l : List ℕ). l ++ text) t.has.none)) t.holds);
+          (holds_replied v text (record { index = refl; item = refl; plan = refl; looks = refl; picks = refl; spents = refl }) (sym (ap (λ (l : List ℕ). l ++ text) t.has.undecided.reply)) (in_pending ∙ sym (ap (λ (l : List ℕ). l ++ text) t.has.none)) (λ c d. inr (λ none. some (sym in_pending ∙ none))) (λ d. d) t.holds);
       sound = record { all = t.sound.all; one = record { item = t.sound.one.item; answers = answers; shown = t.sound.one.shown } };
       tied = record {
         index = t.tied.index ∙ sym alike.index;
@@ -265,6 +268,18 @@ opened_replied {steps} {k} {m} {trail} {input} {pending} {waiting} {over} status
       has = refl;
     } in
     opened_turn Reply w (at_turn w)
+
+abbrev first_of : List ℕ → ℕ
+first_of [] = 0
+first_of (b ∷ bytes) = b
+
+-- each reply has bytes: it begins with an H
+pub text_some : (a : HttpReply) (version : ℕ) (close : Bool) (content : List ℕ) → reply_text a version close ++ content ≢ []
+text_some a version close content is = let e : 72 ≡ 0 = ap first_of is in let f : ⊥ = omega (arith, e) in f
+
+-- an own reply has bytes
+pub own_some : (status : ℕ) (close : Bool) (text : List ℕ) → IsOwnText status close text → text ≢ []
+own_some status close text own none = text_some own.0 1 close (content_of status) (sym own.2 ∙ none)
 
 -- the machine ends the connection where the request says so
 pub ends_fit : (index : ℕ) (asked : Asked) (ask : Ask) → Fits asked ask → ends_after index ask ≡ end_by index asked
@@ -343,7 +358,7 @@ opened_refused {steps} {k} {m} {trail} {input} {pending} {waiting} {over} cause 
     let t : Turning steps k m trail input pending waiting over (IsOpenAt k.entry k.peer m pending unrouted) = turning o (turn_as o.stage o.stage.holds.open_at) in
     let own_is : IsOwnText (refused_status cause) (closes t.turn) text =
     own_text_of m trail t.turn (refused_status cause) close text t.tied t.asked close_is (subst (λ (s : ℕ). IsOwnText s close text) is own) in
-    opened_replied (refused_status cause) cause text alike router (status_is ∙ is) cause_is in_pending t
+    opened_replied (refused_status cause) cause text alike router (status_is ∙ is) cause_is in_pending (own_some status close text own) t
     (refused_answers k.entry k.peer t.turn cause text (subst (λ (a : Asked). Fits a t.turn.ask) refused t.asked) t.has.undecided.stage own_is)
 
 -- no router wins
@@ -359,7 +374,7 @@ opened_lost {steps} {k} {m} {trail} {input} {pending} {waiting} {over} close tex
     let ask : u.ask ≡ asks lost.0 = asked_is m u.ask lost.0 lost.2 t.asked in
     let plan : lost.1 ≡ u.plan = same_plan (issue_plan m.issue) lost.1 u.plan lost.3 t.has.plan in
     let own_is : IsOwnText 404 (closes u) text = own_text_of m trail u 404 close text t.tied t.asked close_is own in
-    opened_replied 404 NoRouter text alike router status_is cause_is in_pending t
+    opened_replied 404 NoRouter text alike router status_is cause_is in_pending (own_some 404 close text own) t
     ((lost.0, ask, routed_by k.entry k.peer (take m.size input) u lost.0 lost.1 None t.sound.one.item ask o.stage.holds.item_is plan lost.4), own_of 404 u NoRouter text own_is, unrouted_of u 404 NoRouter text t.has.undecided.stage)
 
 -- the note that the machine makes is the request's
@@ -399,10 +414,6 @@ end_ends (ending.CutLate b n) history done t rest left failed stopped c none kep
 end_ends ending.Stopped history done t rest left failed stopped c none kept e = absurd c
 end_ends ending.Memory history done t rest left failed stopped c none kept e = absurd c
 
-some_turns : (done : List Turn) (t : Turn) → done ++ t ∷ [] ≢ []
-some_turns [] t is = cc
-some_turns (u ∷ done) t is = cc
-
 -- a machine whose request has left: what is the same, and what is new
 pub record HasLeft (c d : Conn) : Type 0 where
   pub client : d.client ≡ c.client
@@ -416,12 +427,12 @@ pub record HasLeft (c d : Conn) : Type 0 where
 left_holds : {steps : List Step} {c d : Conn} → HasLeft c d → pending_of c ≡ []
     → (t : Turning steps c.client c.current (trail_of c) c.input.items (pending_of c) c.notes.items c.over (λ (x : Turn). x.whole ≡ true))
     → (next : ℕ) → next ≡ c.current.index + 1
-    → Holds (told d.client.link steps) d.client.link d.client.entry d.client.peer (t.done ++ t.turn ∷ []) None d.input.items [] d.notes.items (closed_by d.current.pinned d.client.link None) [] d.over d.current.number next
+    → Holds (told d.client.link steps) d.client.link d.client.entry d.client.peer (t.done ++ t.turn ∷ []) None d.input.items [] d.notes.items (closed_by d.current.pinned d.client.link None) [] false d.current.number next
 left_holds {steps} {c} {d} h none t next next_is =
     let note : note_by c.client.link c.current c.looks.items c.picks.items c.backs.items ≡ note_of c.client.link t.turn = same_note c.client.link c.current (trail_of c) t.turn t.tied in
-    let all : Holds (told c.client.link steps) c.client.link c.client.entry c.client.peer (t.done ++ t.turn ∷ []) None d.input.items [] d.notes.items (closed_by d.current.pinned c.client.link None) [] d.over d.current.number next =
-    holds_as refl refl (h.input ∙ sym t.rest_is) (sym none) (h.notes ∙ ap (λ (n : Note). c.notes.items ++ n ∷ []) note) (nothing d.current.pinned) refl h.over h.number next_is (holds_done t.has t.holds) in
-    subst (λ (k : Client). Holds (told k.link steps) k.link k.entry k.peer (t.done ++ t.turn ∷ []) None d.input.items [] d.notes.items (closed_by d.current.pinned k.link None) [] d.over d.current.number next) (sym h.client) all
+    let all : Holds (told c.client.link steps) c.client.link c.client.entry c.client.peer (t.done ++ t.turn ∷ []) None d.input.items [] d.notes.items (closed_by d.current.pinned c.client.link None) [] false d.current.number next =
+    holds_as refl refl (h.input ∙ sym t.rest_is) (sym none) (h.notes ∙ ap (λ (n : Note). c.notes.items ++ n ∷ []) note) (nothing d.current.pinned) refl refl h.number next_is (holds_done t.has none t.holds) in
+    subst (λ (k : Client). Holds (told k.link steps) k.link k.entry k.peer (t.done ++ t.turn ∷ []) None d.input.items [] d.notes.items (closed_by d.current.pinned k.link None) [] false d.current.number next) (sym h.client) all
   where
     nothing : (b : Bool) → closed_by b c.client.link None ≡ []
     nothing true = refl
@@ -440,16 +451,16 @@ unpinned_tied false m trail is = tt
 
 -- the connection goes on
 pub reached_on : {steps : List Step} {c : Conn} (d : Conn) → d.phase ≡ Open → d.stage ≡ Head → d.current.index ≡ c.current.index + 1
-    → HasLeft c d → pending_of c ≡ [] → end_by c.current.index c.current.asked ≡ None
+    → HasLeft c d → pending_of c ≡ [] → end_by c.current.index c.current.asked ≡ None → c.over ≡ false
     → Opened steps c.client c.current (trail_of c) c.input.items (pending_of c) c.notes.items c.over Reply → Reached steps d
-reached_on {steps} {c} d is at index h none end o =
+reached_on {steps} {c} d is at index h none end goes_on o =
     let t : Turning steps c.client c.current (trail_of c) c.input.items (pending_of c) c.notes.items c.over (λ (x : Turn). x.whole ≡ true) = turning o o.stage in
     let kept : IsKept t.turn = ap (λ (n : ℕ). ends_after n t.turn.ask) t.tied.index ∙ ends_fit c.current.index c.current.asked t.turn.ask t.asked ∙ end in
     reached_open d is (record {
       done = t.done ++ t.turn ∷ [];
       last = None;
       rest = d.input.items;
-      holds = subst (λ (l : List ℕ). Holds (told d.client.link steps) d.client.link d.client.entry d.client.peer (t.done ++ t.turn ∷ []) None d.input.items l d.notes.items (closed_by d.current.pinned d.client.link None) [] d.over d.current.number d.current.index) (sym h.none) (left_holds h none t d.current.index index);
+      holds = holds_as refl refl refl h.none refl refl refl (h.over ∙ goes_on) refl refl (left_holds h none t d.current.index index);
       sound = left_sound h t;
       tied = unpinned_tied d.current.pinned d.current (trail_of d) h.unpinned;
       kept = all_both IsKept t.done (t.turn ∷ []) t.kept (kept, tt);
@@ -467,7 +478,7 @@ left_over {steps} {c} d cause is h none t ending_is = record {
   left = [];
   kept = record {
     next = c.current.index + 1;
-    holds = holds_as refl refl refl refl refl refl (ap (ending_note d.client.link) is) refl refl refl (left_holds h none t (c.current.index + 1) refl);
+    holds = holds_as refl refl refl refl refl refl (ap (ending_note d.client.link) is) (ap (λ (q : Phase). open_over q d.over) is) refl refl (left_holds h none t (c.current.index + 1) refl);
     sound = left_sound h t;
     tied = unpinned_tied d.current.pinned d.current (trail_of d) h.unpinned;
   };
@@ -489,8 +500,19 @@ pub reached_left : {steps : List Step} {c : Conn} (d : Conn) → d.phase ≡ Ove
 reached_left {steps} {c} d is over h none end o =
     let t : Turning steps c.client c.current (trail_of c) c.input.items (pending_of c) c.notes.items c.over (λ (x : Turn). x.whole ≡ true) = turning o o.stage in
     let kept : IsKept t.turn = ap (λ (n : ℕ). ends_after n t.turn.ask) t.tied.index ∙ ends_fit c.current.index c.current.asked t.turn.ask t.asked ∙ end in
+    let x : EndedIn (history c.client.link steps) t.done (Some t.turn) = t.holds.closes over in
+    let within : EndedWithin (history d.client.link steps) (t.done ++ t.turn ∷ []) = record {
+      front = t.done;
+      turn = t.turn;
+      done_is = refl;
+      before = x.before;
+      after = x.after;
+      parts = ap (λ (k : Client). history k.link steps) h.client ∙ x.parts;
+      covers = x.covers;
+      short = x.untaken (inl t.has);
+    } in
     left_over d ending.Client is h none t
-    (subst (λ (k : Client). ends (history k.link steps) ≢ []) (sym h.client) (t.holds.closes over), refl, refl, all_both IsKept t.done (t.turn ∷ []) t.kept (kept, tt), inr (some_turns t.done t.turn))
+    (subst (λ (k : Client). ends (history k.link steps) ≢ []) (sym h.client) (ended_ends x), refl, refl, all_both IsKept t.done (t.turn ∷ []) t.kept (kept, tt), inr within)
 
 -- the note of equal lists
 pub note_same : (link : ℕ) (m : Current) (a a' : Vec LookNote Global) (b b' : Vec NodePick Global) (d d' : Vec ℕ Global) → a ≡ a' → b ≡ b' → d ≡ d'

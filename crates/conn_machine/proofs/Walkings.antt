@@ -11,6 +11,7 @@ use Rattle.link_world.specs.declared.note.NodePick.{NodePick}
 use Rattle.link_world.specs.declared.note.Cause.{Cause}
 use Rattle.link_world.specs.declared.note.Cause.TheVariants.{NoChild, Spent as SpentCause}
 use Rattle.conversation.specs.Steps.{Step, looked, drew, spent}
+use Rattle.conversation.proofs.Holdings.{ended_last}
 use Rattle.conversation.specs.Turns.{Stage as TurnStage, routed, down, up, refused, picked, Turn, closes, is_up, node_of, IsAt, IsUndecided, IsOwnText, AnswersBy, AnswersOwn}
 use Rattle.conversation.specs.Served.{looks_of, picks_of, spents_of}
 use Rattle.conversation.specs.Holding.{Told, Holds, Sound}
@@ -22,7 +23,7 @@ use Rattle.conn_machine.specs.declared.parts.Client.{Client}
 use Rattle.conn_machine.specs.declared.parts.Current.{Current}
 use Rattle.conn_machine.specs.declared.parts.Stage.TheVariants.{Look, Down, Walk, Spent, Dial, Reply}
 use Rattle.conn_machine.proofs.Opens.{holds_as}
-use Rattle.conn_machine.proofs.Turnings.{Turning, IsAlike, turning, at_turn, opened_turn, opened_replied, own_text_of, replied}
+use Rattle.conn_machine.proofs.Turnings.{Turning, IsAlike, turning, at_turn, opened_turn, opened_replied, own_text_of, own_some, replied}
 
 holds_looked : {t : Told} {link : ℕ} {entry : List ℕ} {peer : Ip} {done : List Turn} {u : Turn} {rest left : List ℕ} {waiting closed ending : List Note} {over : Bool} {number next : ℕ} (l : LookNote)
     → u.looks ≡ [] → Holds t link entry peer done (Some u) rest left waiting closed ending over number next
@@ -31,16 +32,18 @@ holds_looked {done} l none r = record {
   arrived = r.arrived;
   reads = r.reads;
   spells = r.spells;
+  covers = r.covers;
   noted = r.noted;
   pinned = r.pinned;
   looked = ap (λ (x : List LookNote). x ++ l ∷ []) (r.looked ∙ ap (λ (x : List LookNote). flat_map looks_of done ++ x) none ∙ append-nil (flat_map looks_of done));
   picked = r.picked;
   refused = r.refused;
+  own = r.own;
   rising = r.rising;
   numbered = r.numbered;
   numbered_last = r.numbered_last;
   whole = r.whole;
-  closes = r.closes;
+  closes = λ c. ended_last (r.closes c) (r.closes c).untaken;
 }
 
 holds_drew : {t : Told} {link : ℕ} {entry : List ℕ} {peer : Ip} {done : List Turn} {u : Turn} {rest left : List ℕ} {waiting closed ending : List Note} {over : Bool} {number next : ℕ} (p : NodePick)
@@ -50,16 +53,18 @@ holds_drew {done} p none r = record {
   arrived = r.arrived;
   reads = r.reads;
   spells = r.spells;
+  covers = r.covers;
   noted = r.noted;
   pinned = r.pinned;
   looked = r.looked;
   picked = ap (λ (x : List NodePick). x ++ p ∷ []) (r.picked ∙ ap (λ (x : List NodePick). flat_map picks_of done ++ x) none ∙ append-nil (flat_map picks_of done));
   refused = r.refused;
+  own = r.own;
   rising = r.rising;
   numbered = r.numbered;
   numbered_last = r.numbered_last;
   whole = r.whole;
-  closes = r.closes;
+  closes = λ c. ended_last (r.closes c) (r.closes c).untaken;
 }
 
 holds_spent : {t : Told} {link : ℕ} {entry : List ℕ} {peer : Ip} {done : List Turn} {u : Turn} {rest left : List ℕ} {waiting closed ending : List Note} {over : Bool} {number next : ℕ} (n : ℕ)
@@ -69,16 +74,18 @@ holds_spent {done} n none r = record {
   arrived = r.arrived;
   reads = r.reads;
   spells = r.spells;
+  covers = r.covers;
   noted = r.noted;
   pinned = r.pinned;
   looked = r.looked;
   picked = r.picked;
   refused = ap (λ (x : List ℕ). x ++ n ∷ []) (r.refused ∙ ap (λ (x : List ℕ). flat_map spents_of done ++ x) none ∙ append-nil (flat_map spents_of done));
+  own = r.own;
   rising = r.rising;
   numbered = r.numbered;
   numbered_last = r.numbered_last;
   whole = r.whole;
-  closes = r.closes;
+  closes = λ c. ended_last (r.closes c) (r.closes c).untaken;
 }
 
 -- the node that the machine wants is the target's
@@ -280,7 +287,7 @@ pub opened_no_child : {steps : List Step} {k : Client} {m : Current} {trail : Tr
 opened_no_child {steps} {k} {m} {trail} {input} {pending} {waiting} {over} close text alike router status cause in_pending close_is own o =
     let t : Turning steps k m trail input pending waiting over (IsAimedAt k.entry k.peer m pending down) = turning o o.stage in
     let x : IsAt down k.entry k.peer t.turn = t.has.open_at.undecided.stage in
-    opened_replied 503 NoChild text alike router status cause in_pending (open_of t)
+    opened_replied 503 NoChild text alike router status cause in_pending (own_some 503 close text own) (open_of t)
     ((x.0, x.1, record { asked = x.2.asked; won = x.2.won; router = x.2.router }, x.3, x.4, x.5, x.6), own_503 t.turn NoChild text (own_text_of m trail t.turn 503 close text t.tied t.asked close_is own))
 
 -- the draw was refused
@@ -294,5 +301,5 @@ opened_refusal {steps} {k} {m} {trail} {input} {pending} {waiting} {over} node c
     let t : Turning steps k m trail input pending waiting over (IsAimedAt k.entry k.peer m pending refused) = turning o o.stage in
     let x : IsAt refused k.entry k.peer t.turn = t.has.open_at.undecided.stage in
     let e : node ≡ node_of t.turn x.1 = wanted m t.turn t.has.aim x.1 node wants t.has.aim_is t.has.aims x.2.router in
-    opened_replied 503 (SpentCause node) text alike router status cause in_pending (open_of t)
+    opened_replied 503 (SpentCause node) text alike router status cause in_pending (own_some 503 close text own) (open_of t)
     ((x.0, x.1, record { asked = x.2.asked; won = x.2.won; router = x.2.router }, x.3, x.4, x.5 ∙ ap (λ (y : ℕ). y ∷ []) (sym e), e, x.6), own_503 t.turn (SpentCause node) text (own_text_of m trail t.turn 503 close text t.tied t.asked close_is own))

@@ -24,7 +24,9 @@ use Rattle.generation.specs.declared.generation.Generation.{Generation}
 use Rattle.generation.specs.Meaning.{plan_of}
 use Rattle.back_machine.specs.Exchanges.{BackView, Exchanged}
 use Rattle.back_machine.specs.Forwarding.{forwarded}
+use Rattle.back_machine.specs.declared.state.BackState.{BackState}
 use Rattle.back_machine.specs.declared.state.BackState.TheVariants as backs
+use Rattle.back_machine.specs.declared.state.BackCause.TheVariants as why
 use Rattle.http_wire.specs.Spelling.{reply_text}
 use Rattle.http_wire.specs.declared.message.Reply.{Reply as HttpReply}
 use Rattle.conn_machine.specs.declared.parts.Aim.{Aim}
@@ -184,6 +186,15 @@ abbrev pub IsElse : ℕ → Option BackLink → Type 0
 IsElse link None = Unit {0}
 IsElse link (Some b) = b.link ≢ link
 
+-- the link failed just where the exchange is broken for that
+abbrev pub IsFailing : BackState → (faults : List (Unit {0})) → Type 0
+IsFailing backs.Waiting faults = faults ≡ []
+IsFailing backs.HeadRead faults = faults ≡ []
+IsFailing backs.Done faults = faults ≡ []
+IsFailing (backs.Broken why.Failed) faults = faults ≢ []
+IsFailing (backs.Broken why.Ended) faults = faults ≡ []
+IsFailing (backs.Broken why.Bad) faults = faults ≡ []
+
 -- the link was dialled, and nothing else happened on it
 pub record IsDialling (entry : List ℕ) (peer : Ip) (m : Current) (pending : List ℕ) (done : List Turn) (t : Turn) : Type 0 where
   pub aimed : IsAimedAt entry peer m pending sent t
@@ -194,6 +205,7 @@ pub record IsDialling (entry : List ℕ) (peer : Ip) (m : Current) (pending : Li
   pub number : link.link ≡ m.link
   pub untaken : taken link.events ≡ []
   pub ungiven : given link.events ≡ []
+  pub sound : link.faults ≡ []
   pub apart : AllByRecursion (λ (u : Turn). IsElse m.link u.back) done
 
 -- what of the reply has come: nothing yet, or this reply with this content
@@ -217,6 +229,7 @@ pub record IsExchanging (entry : List ℕ) (peer : Ip) (m : Current) (pending : 
   pub exchanged : Exchanged (message_to (t.plan.target row) r) r.method (taken link.events) (given link.events) content ended failed back
   pub ends_is : ended ≡ true → ends link.events ≢ []
   pub fails_is : failed ≡ true → link.faults ≢ []
+  pub failing : IsFailing back.state link.faults
   pub passing : Passing back.reply r t content pending
   pub apart : AllByRecursion (λ (u : Turn). IsElse m.link u.back) done
 

@@ -38,6 +38,13 @@ closed_by false link last = of_last (notes_of link) last
 abbrev pub trail_of : Conn → Trail
 trail_of c = record { looks = c.looks.items; picks = c.picks.items; backs = c.backs.items }
 
+-- whether the client has ended, of a machine that is open
+abbrev pub open_over : Phase → Bool → Bool
+open_over Open over = over
+open_over Broken over = false
+open_over (Over cause) over = false
+open_over (Told cause) over = false
+
 abbrev pub pending_of : Conn → List ℕ
 pending_of c = drop c.sent c.out.items
 
@@ -76,7 +83,7 @@ pub record Reached (steps : List Step) (c : Conn) : Type 0 where
   pub last : Option Turn
   pub rest : List ℕ
   pub left : List ℕ
-  pub kept : Kept steps c.client c.current (trail_of c) c.notes.items (ending_note c.client.link c.phase) c.over done last rest left
+  pub kept : Kept steps c.client c.current (trail_of c) c.notes.items (ending_note c.client.link c.phase) (open_over c.phase c.over) done last rest left
   pub phase : PhaseHolds c.phase steps c done last rest left kept.next
 
 abbrev pub IsEnding : Phase → Type 0

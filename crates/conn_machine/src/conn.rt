@@ -167,7 +167,7 @@ impl Conn {
         ensures going { OnOk result (IsGoing self.new.phase) }
         ensures prompt { IsPrompt self.old → OnOk result (IsPrompt self.new) }
         ensures server { KeepsServer self.old self.new }
-        ensures reached { (steps : List Step) → Reached steps self.old
+        ensures reached { IsPrompt self.old → (steps : List Step) → Reached steps self.old
             → Reached (steps ++ happened self.old.client.link gave_end ∷ []) self.new }
     {
         self.close();
@@ -184,7 +184,7 @@ impl Conn {
         ensures pending { pending_of self.new ≡ pending_of self.old }
         ensures open { IsOpen self.new }
         ensures stage { self.new.stage ≡ self.old.stage }
-        ensures reached { (steps : List Step) → Reached steps self.old
+        ensures reached { IsPrompt self.old → (steps : List Step) → Reached steps self.old
             → Reached (steps ++ happened self.old.client.link gave_end ∷ []) self.new }
     {
         self.over = true;

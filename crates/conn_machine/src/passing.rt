@@ -74,7 +74,7 @@ impl Conn {
         ensures going { OnOk result (IsGoing self.new.phase) }
         ensures prompt { OnOk result (IsPrompt self.new) }
         ensures server { KeepsServer self.old self.new }
-        ensures reached { (steps : List Step) → Reached steps self.old
+        ensures reached { IsPrompt self.old → (steps : List Step) → Reached steps self.old
             → Reached (steps ++ failed self.old.current.link ∷ []) self.new }
     {
         self.note_fault();
@@ -132,7 +132,7 @@ impl Conn {
         ensures waits { Waits Stage.Exchange self.new }
         ensures link { self.new.current.link ≡ self.old.current.link }
         ensures notes { self.new.notes ≡ self.old.notes }
-        ensures reached { (steps : List Step) → Reached steps self.old
+        ensures reached { IsPrompt self.old → (steps : List Step) → Reached steps self.old
             → Reached (steps ++ failed self.old.current.link ∷ []) self.new }
     {
         if let Some(back) = &mut self.current.back {

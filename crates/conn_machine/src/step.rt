@@ -26,7 +26,7 @@ impl Conn {
         ensures going { OnOk result (IsGoing self.new.phase) }
         ensures prompt { IsPrompt self.old → OnOk result (IsPrompt self.new) }
         ensures server { ServerAfter event.entry self.old self.new }
-        ensures reached { (steps : List Step) → IsFresh event.entry steps → Reached steps self.old
+        ensures reached { IsPrompt self.old → (steps : List Step) → IsFresh event.entry steps → Reached steps self.old
             → Reached (steps ++ step_of self.old event.entry ∷ []) self.new }
     {
         match event {
@@ -63,7 +63,7 @@ impl Conn {
         ensures going { OnOk result (IsGoing self.new.phase) }
         ensures prompt { IsPrompt self.old → OnOk result (IsPrompt self.new) }
         ensures server { KeepsServer self.old self.new }
-        ensures reached { (steps : List Step) → Reached steps self.old
+        ensures reached { IsPrompt self.old → (steps : List Step) → Reached steps self.old
             → Reached (steps ++ back_step_of self.old.current.link (back_pending_of self.old) event.entry ∷ []) self.new }
     {
         match event {

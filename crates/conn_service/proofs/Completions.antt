@@ -3,20 +3,18 @@ use Rattle.std.proofs.Common.{◌≡◌, ◌≢◌, ℕ, List, [], ◌++◌, Opt
 use Rattle.std.specs.List.{flat_map}
 use Rattle.std.proofs.lemmas.List.{append-nil}
 use Rattle.head_view.specs.Scans.{HasHead}
-use Rattle.http_wire.specs.declared.message.Reply.{Reply}
-use Rattle.back_machine.specs.Exchanges.{BackView, Exchanged, Receives, IsOpen as IsOpenState, StateHolds}
-use Rattle.back_machine.specs.declared.state.BackState.{BackState}
-use Rattle.back_machine.specs.declared.state.BackState.TheVariants.{Waiting, HeadRead, Done, Broken}
-use Rattle.link_world.specs.Log.{given, notes, ends}
+use Rattle.back_machine.specs.Exchanges.{IsOpen as IsOpenState}
+use Rattle.link_world.specs.Log.{given, notes}
 use Rattle.link_world.specs.Lately.{Lately}
 use Rattle.link_world.specs.declared.note.Note.{Note}
 use Rattle.link_world.specs.declared.note.EndCause.{EndCause}
 use Rattle.conversation.specs.Asks.{line_limit}
 use Rattle.conversation.specs.Steps.{Step, history}
-use Rattle.conversation.specs.Served.{notes_of}
-use Rattle.conversation.specs.Complete.{HasWholeReply, joined, GaveRequests, ComesEarly, IsOver, IsComplete}
+use Rattle.conversation.specs.Served.{notes_of, EndedWithin}
+use Rattle.conversation.specs.Turns.{HasWholeReply}
+use Rattle.conversation.specs.Complete.{joined, GaveRequests, ComesEarly, IsOver, IsComplete}
 use Rattle.conversation.proofs.Cuttings.{none_later}
-use Rattle.conversation.proofs.Completions.{whole_not_short, whole_not_none, IsCutAll, cut_last}
+use Rattle.conversation.proofs.Completions.{IsCutAll, cut_last}
 use Rattle.conn_machine.specs.Parts.{Trail, AtStage, IsExchanging, IsPart}
 use Rattle.conn_machine.specs.Relays.{IsOpenBack}
 use Rattle.conn_machine.specs.Reached.{Reached, Opened, IsOpen, closed_by, trail_of, pending_of}
@@ -26,20 +24,8 @@ use Rattle.conn_machine.specs.declared.parts.Stage.{Stage}
 use Rattle.conn_machine.specs.declared.parts.Stage.TheVariants.{Head, Pin, Route, Look, Down, Walk, Spent, Dial, Dialled, Exchange, Reply as Replying}
 use Rattle.conn_machine.specs.declared.conn.Conn.{Conn}
 use Rattle.conn_machine.proofs.Opens.{opened}
+use Rattle.conn_machine.proofs.Knowns.{going}
 use Rattle.conn_service.specs.Calm.{IsStanding, Calm}
-
--- an exchange that goes on has no whole reply
-going : (o : Option Reply) (state : BackState) (message method took gave content : List ℕ) (ended failed : Bool) (b : BackView) → b.reply ≡ o → b.state ≡ state → IsOpenState state → Exchanged message method took gave content ended failed b → HasWholeReply method gave → ⊥
-going o Waiting message method took gave content ended failed b reply is goes x whole =
-    let h : StateHolds Waiting method gave content ended failed b = subst (λ (s : BackState). StateHolds s method gave content ended failed b) is x.state in
-    let none : Receives method gave content None = subst (Receives method gave content) h.1.none x.received in
-    whole_not_none method gave none.0 whole
-going o HeadRead message method took gave content ended failed b reply is goes x whole =
-    let h : StateHolds HeadRead method gave content ended failed b = subst (λ (s : BackState). StateHolds s method gave content ended failed b) is x.state in
-    let some : Receives method gave content (Some h.1.reply) = subst (Receives method gave content) h.1.reply_is x.received in
-    whole_not_short method gave h.1.reply content some h.1.short whole
-going o Done message method took gave content ended failed b reply is goes x whole = absurd goes
-going o (Broken cause) message method took gave content ended failed b reply is goes x whole = absurd goes
 
 -- It waits for no request that is whole and for no reply that is whole. Where it waits for its client to take a reply, that
 -- is whole.
@@ -51,7 +37,7 @@ opened_complete {steps} {k} {m} {trail} {input} {pending} {over} items cause stu
     cut : IsCutAll k.peer o.done o.last o.rest items
     cut = cut_last steps k.entry k.peer o.done o.last o.rest items o.sound.all o.sound.one fair.requests (sym o.holds.reads ∙ fair.gave)
 
-    made : IsOver cause stuck failed (ends (history k.link steps) ≢ []) o.done o.last cut.later pending → IsComplete cause stuck failed k.link k.entry k.peer steps items
+    made : IsOver cause stuck failed (EndedWithin (history k.link steps) o.done) o.done o.last cut.later pending → IsComplete cause stuck failed k.link k.entry k.peer steps items
     made ending = record {
       done = o.done;
       last = o.last;
@@ -62,6 +48,7 @@ opened_complete {steps} {k} {m} {trail} {input} {pending} {over} items cause stu
       answered = (o.sound.all, o.sound.one);
       whole = o.holds.whole;
       spells = o.holds.spells;
+      covers = o.holds.covers;
       noted = (closed_by m.pinned k.link o.last, sym (append-nil (notes (history k.link steps))) ∙ o.holds.noted ∙ append-nil (flat_map (notes_of k.link) o.done ++ closed_by m.pinned k.link o.last));
       ending = ending;
     }

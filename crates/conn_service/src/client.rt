@@ -26,12 +26,13 @@ pub(crate) fn receive<W: World>(
     reads: &mut Reads,
 ) -> Result<bool, Memory>
     requires linked { Linked (W.seen world.old) conn.old }
+    requires prompt { IsPrompt conn.old }
     requires buffer { length buffer.old ≡ 32768 }
     requires counted { Counted reads.old (W.lately world.old) conn.old }
     ensures went { (g : Desk) → Went ⊥ (moment (W.seen world.old) (W.lately world.old) g conn.old)
         (moment (W.seen world.new) (W.lately world.new) g conn.new) }
     ensures server { KeepsServer conn.old conn.new }
-    ensures prompt { IsPrompt conn.old → OnOk result (IsPrompt conn.new) }
+    ensures prompt { OnOk result (IsPrompt conn.new) }
     ensures counted { Counted reads.new (W.lately world.new) conn.new }
     ensures still { IfOk result (λ moved. moved ≡ false → IsOpen conn.new
         → Stays (W.lately world.old) (W.lately world.new) conn.old conn.new × ReadDone (W.lately world.new) conn.new) }
@@ -90,13 +91,14 @@ pub(crate) fn take_read(
     read: LinkRead,
 ) -> Result<bool, Memory>
     requires open { IsOpen conn.old }
+    requires prompt { IsPrompt conn.old }
     requires within { (n : ℕ) → read ≡ LinkRead.Got n → n ≤ length buffer.now }
     ensures went { (s t : Seen) (l m : Lately) (g : Desk) → Linked s conn.old → ReadDid s conn.old.client.link read buffer.now t
         → ReadLately l conn.old.client.link read m → Went ⊥ (moment s l g conn.old) (moment t m g conn.new) }
     ensures client { conn.new.client ≡ conn.old.client }
     ensures number { conn.new.current.number ≡ conn.old.current.number }
     ensures server { KeepsServer conn.old conn.new }
-    ensures prompt { IsPrompt conn.old → OnOk result (IsPrompt conn.new) }
+    ensures prompt { OnOk result (IsPrompt conn.new) }
     ensures still { IfOk result (λ moved. moved ≡ false → (read ≡ LinkRead.NotYet) × SameWork conn.old conn.new) }
 {
     match read {

@@ -40,11 +40,12 @@ pub(crate) fn dial<W: World>(conn: &mut Conn, alloc: Global, world: &mut W) -> R
 
 /// Writes what is pending for the server. Answers whether anything came of it.
 pub(crate) fn ask<W: World>(conn: &mut Conn, alloc: Global, world: &mut W) -> Result<bool, Memory>
-    requires { Linked (W.seen world.old) conn.old }
+    requires linked { Linked (W.seen world.old) conn.old }
+    requires prompt { IsPrompt conn.old }
     ensures went { (g : Desk) → Went ⊥ (moment (W.seen world.old) (W.lately world.old) g conn.old)
         (moment (W.seen world.new) (W.lately world.new) g conn.new) }
     ensures server { KeepsServer conn.old conn.new }
-    ensures prompt { IsPrompt conn.old → OnOk result (IsPrompt conn.new) }
+    ensures prompt { OnOk result (IsPrompt conn.new) }
     ensures counted { (r : ReadsOf) → Counted r (W.lately world.old) conn.old → Counted r (W.lately world.new) conn.new }
     ensures still { IfOk result (λ moved. moved ≡ false → Stays (W.lately world.old) (W.lately world.new) conn.old conn.new
         × (IsExchanging conn.new → back_pending_of conn.new ≢ [] → (W.lately world.new).write_quiet conn.new.current.link ≡ true)) }
@@ -78,12 +79,13 @@ pub(crate) fn hear<W: World>(
     reads: &mut Reads,
 ) -> Result<bool, Memory>
     requires linked { Linked (W.seen world.old) conn.old }
+    requires prompt { IsPrompt conn.old }
     requires buffer { length buffer.old ≡ 32768 }
     requires counted { Counted reads.old (W.lately world.old) conn.old }
     ensures went { (g : Desk) → Went ⊥ (moment (W.seen world.old) (W.lately world.old) g conn.old)
         (moment (W.seen world.new) (W.lately world.new) g conn.new) }
     ensures server { KeepsServer conn.old conn.new }
-    ensures prompt { IsPrompt conn.old → OnOk result (IsPrompt conn.new) }
+    ensures prompt { OnOk result (IsPrompt conn.new) }
     ensures counted { Counted reads.new (W.lately world.new) conn.new }
     ensures still { IfOk result (λ moved. moved ≡ false → Stays (W.lately world.old) (W.lately world.new) conn.old conn.new
         × (IsExchanging conn.new → IsRead (W.lately world.new) conn.new.current.link)) }

@@ -7,15 +7,15 @@ use Rattle.head_view.specs.Scans.{HasHead}
 use Rattle.http_wire.specs.declared.message.Reply.{Reply}
 use Rattle.back_machine.specs.Replies.{HasReply, HasNoReplyYet, IsShort, content_length, content_in}
 use Rattle.back_machine.proofs.ReplyLemmas.{one_reply}
-use Rattle.link_world.specs.Log.{given, ends}
+use Rattle.link_world.specs.Log.{given}
 use Rattle.link_world.specs.declared.note.EndCause.{EndCause}
 use Rattle.link_world.specs.declared.note.EndCause.TheVariants.{Client, ClientFailed, Asked, Refused, Unread, Idle, Count, Cut, CutLate, Stopped, Memory}
 use Rattle.conversation.specs.Plans.{Plan}
 use Rattle.conversation.specs.Steps.{Step, history}
 use Rattle.conversation.specs.Asks.{line_limit}
-use Rattle.conversation.specs.Turns.{Turn}
-use Rattle.conversation.specs.Served.{of_all, of_last, item_of, notes_of, IfLast, IsAnswered, IsCutBy, EndHolds, end_note, Served}
-use Rattle.conversation.specs.Complete.{IsRequest, HasWholeReply, joined, GaveRequests, bytes_of, IsUnanswered, IsLast, IsAsking, IsLastDone, IsOver, IsComplete}
+use Rattle.conversation.specs.Turns.{Turn, HasWholeReply}
+use Rattle.conversation.specs.Served.{of_all, of_last, item_of, notes_of, IfLast, IsAnswered, IsCutBy, EndedWithin, EndHolds, end_note, Served}
+use Rattle.conversation.specs.Complete.{IsRequest, joined, GaveRequests, bytes_of, IsUnanswered, IsLast, IsAsking, IsLastDone, IsOver, IsComplete}
 use Rattle.conversation.proofs.Cuttings.{cut_all, none_later}
 
 same_content : (method gave : List ℕ) (a b : Reply) (x y : List ℕ) → HasReply method gave a x → HasReply method gave b y → (a ≡ b) × (x ≡ y)
@@ -68,7 +68,7 @@ served_complete {plans} {link} {entry} {peer} {steps} {failed} {stopped} items s
     cut : IsCutAll peer s.done s.last s.rest items
     cut = cut_last steps entry peer s.done s.last s.rest items s.answered.0 s.answered.1 fair.requests (sym s.reads ∙ fair.gave)
 
-    made : (cause : EndCause) → IsOver cause ⊥ failed (ends (history link steps) ≢ []) s.done s.last cut.later s.left → IsComplete cause ⊥ failed link entry peer steps items
+    made : (cause : EndCause) → IsOver cause ⊥ failed (EndedWithin (history link steps) s.done) s.done s.last cut.later s.left → IsComplete cause ⊥ failed link entry peer steps items
     made cause ending = record {
       done = s.done;
       last = s.last;
@@ -79,11 +79,12 @@ served_complete {plans} {link} {entry} {peer} {steps} {failed} {stopped} items s
       answered = s.answered;
       whole = s.whole;
       spells = s.spells;
+      covers = s.covers;
       noted = (of_last (notes_of link) s.last ++ end_note link s.cause ∷ [], s.noted ∙ append_assoc (flat_map (notes_of link) s.done) (of_last (notes_of link) s.last) (end_note link s.cause ∷ []));
       ending = ending;
     }
 
-    over : (cause : EndCause) → s.left ≡ [] → s.last ≡ None → IsLastDone cause (ends (history link steps) ≢ []) s.done cut.later → IsComplete cause ⊥ failed link entry peer steps items
+    over : (cause : EndCause) → s.left ≡ [] → s.last ≡ None → IsLastDone cause (EndedWithin (history link steps) s.done) s.done cut.later → IsComplete cause ⊥ failed link entry peer steps items
     over cause left last ending = made cause (inl (last, left, ending))
 
     unanswered : (l : ℕ) (last : Option Turn) → IfLast (IsCutBy l) last → last ≢ None → IsLast IsUnanswered last
@@ -93,7 +94,7 @@ served_complete {plans} {link} {entry} {peer} {steps} {failed} {stopped} items s
     by : (cause : EndCause) → s.cause ≡ cause → EndHolds cause (history link steps) s.done s.last s.rest s.left failed stopped → IsComplete cause ⊥ failed link entry peer steps items
     by Client is (ended, left, last, kept, inl part) =
         over Client left last (inl (none_later peer cut.later cut.requests (λ (h : HasHead line_limit (joined cut.later)). part.unfinished (subst (HasHead line_limit) (sym cut.rest_is) h))))
-    by Client is (ended, left, last, kept, inr some) = over Client left last (inr (inr (refl, ended, some)))
+    by Client is (ended, left, last, kept, inr some) = over Client left last (inr (inr (refl, some)))
     by ClientFailed is h = made ClientFailed (inr (inl (refl, h)))
     by Asked is (left, last, after) = over Asked left last (inr (inl after))
     by Refused is (left, last, after) = over Refused left last (inr (inl after))

@@ -1,7 +1,7 @@
 -- What each event leaves of what a machine keeps.
-use Rattle.std.proofs.Common.{zero, suc, take, drop, ◌≡◌, ◌≢◌, ℕ, ◌+◌, ◌≤◌, List, [], ◌∷◌, ◌++◌, Option, Some, None, refl, sym, ◌∙◌, ap, arith, Bool, true, false}
+use Rattle.std.proofs.Common.{zero, suc, take, drop, length, ◌≡◌, ◌≢◌, ◌⊎◌, inl, inr, ℕ, ◌+◌, ◌<◌, ◌≤◌, List, [], ◌∷◌, ◌++◌, Option, Some, None, refl, sym, ◌∙◌, ap, subst, arith, Bool, true, false}
 use Rattle.std.specs.List.{flat_map, AllByRecursion, Contains}
-use Rattle.std.proofs.lemmas.List.{append-nil, append_assoc}
+use Rattle.std.proofs.lemmas.List.{append-nil, append_assoc, length-append}
 use Rattle.std.proofs.lemmas.List.Concat.{flat_map-append}
 use Rattle.ip_net.specs.declared.ip.Ip.{Ip}
 use Rattle.link_world.specs.declared.note.Note.{Note}
@@ -14,9 +14,9 @@ use Rattle.link_world.specs.Log.{LinkEvent, came, gave, gave_end, took, noted, g
 use Rattle.conversation.specs.Plans.{Plan}
 use Rattle.conversation.specs.Steps.{Step, happened, history, failures, stops, pins}
 use Rattle.conversation.specs.Asks.{Ask}
-use Rattle.conversation.specs.Turns.{Turn, note_of}
-use Rattle.conversation.specs.Served.{of_all, of_last, item_of, reply_of, pin_of, looks_of, picks_of, spents_of, notes_of, AreNumbered, Rises, IsWhole, EndHolds, end_note, Served}
-use Rattle.conversation.specs.Holding.{Told, told, Holds, Sound}
+use Rattle.conversation.specs.Turns.{Turn, links_of, note_of, HasAnswer}
+use Rattle.conversation.specs.Served.{of_all, of_last, item_of, reply_of, pin_of, looks_of, picks_of, spents_of, backs_of, notes_of, IfLast, AreDistinct, AreNumbered, Rises, IsWhole, EndedWithin, IsHeadPart, EndHolds, end_note, Served}
+use Rattle.conversation.specs.Holding.{Told, told, Holds, Sound, IsReplyKnown, IsUntaken, EndedIn}
 use Rattle.conversation.proofs.Tellings.{history_more, failures_happened, stops_happened}
 
 pub all_both : {X : Type 0} (P : X → Type 0) (xs ys : List X) → AllByRecursion P xs → AllByRecursion P ys → AllByRecursion P (xs ++ ys)
@@ -46,6 +46,48 @@ ends_end h none = some (ends h) (sym (flat_map-append end_by h (gave_end ∷ [])
     some [] is = cc
     some (x ∷ xs) is = cc
 
+-- the end stays where it came
+pub ended_more : {h : List LinkEvent} {done : List Turn} {last : Option Turn} (e : LinkEvent) → EndedIn h done last → EndedIn (h ++ e ∷ []) done last
+ended_more e x = record {
+  before = x.before;
+  after = x.after ++ e ∷ [];
+  parts = ap (λ (l : List LinkEvent). l ++ e ∷ []) x.parts ∙ append_assoc x.before (gave_end ∷ x.after) (e ∷ []);
+  covers = x.covers;
+  untaken = x.untaken;
+}
+
+-- and it came
+pub ended_ends : {h : List LinkEvent} {done : List Turn} {last : Option Turn} → EndedIn h done last → ends h ≢ []
+ended_ends {h} x none = some (ends x.before) (ends x.after) (sym (flat_map-append end_by x.before (gave_end ∷ x.after)) ∙ sym (ap ends x.parts) ∙ none)
+  where
+    some : (xs ys : List (Unit {0})) → xs ++ tt ∷ ys ≢ []
+    some [] ys is = cc
+    some (x ∷ xs) ys is = cc
+
+-- the last request becomes this one
+pub ended_last : {h : List LinkEvent} {done : List Turn} {last : Option Turn} {v : Turn} (x : EndedIn h done last) → (IsReplyKnown v → IsUntaken (taken x.before) done v) → EndedIn h done (Some v)
+ended_last x untaken = record { before = x.before; after = x.after; parts = x.parts; covers = x.covers; untaken = untaken }
+
+-- what was taken by then is at most what was taken
+early_taken : {h : List LinkEvent} {done : List Turn} {last : Option Turn} (x : EndedIn h done last) → length (taken x.before) ≤ length (taken h)
+early_taken {h} x =
+    let e : taken h ≡ taken x.before ++ taken (gave_end ∷ x.after) = ap taken x.parts ∙ flat_map-append taken_by x.before (gave_end ∷ x.after) in
+    let n : length (taken h) ≡ length (taken x.before ++ taken (gave_end ∷ x.after)) = ap (length {A = ℕ}) e in
+    let m : length (taken x.before ++ taken (gave_end ∷ x.after)) ≡ length (taken x.before) + length (taken (gave_end ∷ x.after)) = length-append (taken x.before) (taken (gave_end ∷ x.after)) in
+    omega (arith, n, m)
+
+some_length : (xs : List ℕ) → xs ≢ [] → 0 < length xs
+some_length [] some = absurd (some refl)
+some_length (x ∷ xs) some = omega arith
+
+-- some of the replies is left
+pub some_left : (gone left : List ℕ) (done : List Turn) (v : Turn) → gone ++ left ≡ flat_map reply_of done ++ v.reply → left ≢ [] → IsUntaken gone done v
+some_left gone left done v is some =
+    let n : length (gone ++ left) ≡ length (flat_map reply_of done ++ v.reply) = ap (length {A = ℕ}) is in
+    let m : length (gone ++ left) ≡ length gone + length left = length-append gone left in
+    let p : 0 < length left = some_length left some in
+    omega (arith, n, m, p)
+
 -- one more list in all
 close_list : {A : Type 0} (f : Turn → List A) (done : List Turn) (u : Turn) (xs : List A) → xs ≡ of_all f done (Some u) → xs ≡ of_all f (done ++ u ∷ []) None
 close_list f done u xs h =
@@ -56,18 +98,20 @@ event : {t : Told} {link : ℕ} {entry : List ℕ} {peer : Ip} {done : List Turn
     (e : LinkEvent) {rest' left' : List ℕ} {waiting' closed' ending' : List Note} {over' : Bool}
     → rest' ≡ rest ++ given_by e → left ≡ taken_by e ++ left'
     → (notes t.events ++ note_by e) ++ waiting' ≡ (flat_map (notes_of link) done ++ closed') ++ ending'
-    → (over' ≡ true → ends (t.events ++ e ∷ []) ≢ [])
+    → (over' ≡ true → EndedIn (t.events ++ e ∷ []) done last)
     → Holds t link entry peer done last rest left waiting closed ending over number next
     → Holds (record t { events = t.events ++ e ∷ [] }) link entry peer done last rest' left' waiting' closed' ending' over' number next
 event {t} {link} {entry} {peer} {done} {last} {rest} {left} e {rest'} {left'} {waiting'} {closed'} {ending'} in_rest in_left in_notes in_ends r = record {
   arrived = (r.arrived.0 ++ e ∷ [], ap (λ (l : List LinkEvent). l ++ e ∷ []) r.arrived.1);
   reads = given_more t.events e ∙ ap (λ (l : List ℕ). l ++ given_by e) r.reads ∙ append_assoc (of_all item_of done last) rest (given_by e) ∙ ap (λ (l : List ℕ). of_all item_of done last ++ l) (sym in_rest);
   spells = ap (λ (l : List ℕ). l ++ left') (taken_more t.events e) ∙ append_assoc (taken t.events) (taken_by e) left' ∙ ap (λ (l : List ℕ). taken t.events ++ l) (sym in_left) ∙ r.spells;
+  covers = (r.covers.0 ++ taken_by e, taken_more t.events e ∙ ap (λ (l : List ℕ). l ++ taken_by e) r.covers.1 ∙ append_assoc (flat_map reply_of done) r.covers.0 (taken_by e));
   noted = ap (λ (l : List Note). l ++ waiting') (notes_more t.events e) ∙ in_notes;
   pinned = r.pinned;
   looked = r.looked;
   picked = r.picked;
   refused = r.refused;
+  own = r.own;
   rising = r.rising;
   numbered = r.numbered;
   numbered_last = r.numbered_last;
@@ -81,16 +125,18 @@ holds_came link entry peer = record {
   arrived = ([], refl);
   reads = refl;
   spells = refl;
+  covers = ([], refl);
   noted = refl;
   pinned = refl;
   looked = refl;
   picked = refl;
   refused = refl;
+  own = tt;
   rising = omega arith;
   numbered = refl;
   numbered_last = tt;
   whole = tt;
-  closes = λ (is : false ≡ true). cc;
+  closes = λ (is : false ≡ true). absurd (let f : ⊥ = cc in f);
 }
 
 -- it gave this
@@ -98,13 +144,36 @@ pub holds_gave : {t : Told} {link : ℕ} {entry : List ℕ} {peer : Ip} {done : 
     (piece : List ℕ) {rest' : List ℕ} → rest' ≡ rest ++ piece
     → Holds t link entry peer done last rest left waiting closed ending over number next
     → Holds (record t { events = t.events ++ gave piece ∷ [] }) link entry peer done last rest' left waiting closed ending over number next
-holds_gave {t} {waiting} piece is r = event (gave piece) is refl (ap (λ (l : List Note). l ++ waiting) (append-nil (notes t.events)) ∙ r.noted) (λ c. ends_more t.events (gave piece) (r.closes c)) r
+holds_gave {t} {waiting} piece is r = event (gave piece) is refl (ap (λ (l : List Note). l ++ waiting) (append-nil (notes t.events)) ∙ r.noted) (λ c. ended_more (gave piece) (r.closes c)) r
 
 -- it gave its end
 pub holds_over : {t : Told} {link : ℕ} {entry : List ℕ} {peer : Ip} {done : List Turn} {last : Option Turn} {rest left : List ℕ} {waiting closed ending : List Note} {over : Bool} {number next : ℕ}
-    → Holds t link entry peer done last rest left waiting closed ending over number next
+    → Holds t link entry peer done last rest left waiting closed ending over number next → IfLast (λ u. IsReplyKnown u → IsUntaken (taken t.events) done u) last
     → Holds (record t { events = t.events ++ gave_end ∷ [] }) link entry peer done last rest left waiting closed ending true number next
-holds_over {t} {rest} {waiting} r = event gave_end (sym (append-nil rest)) refl (ap (λ (l : List Note). l ++ waiting) (append-nil (notes t.events)) ∙ r.noted) (λ c. ends_end t.events) r
+holds_over {t} {rest} {waiting} r untaken =
+    event gave_end (sym (append-nil rest)) refl (ap (λ (l : List Note). l ++ waiting) (append-nil (notes t.events)) ∙ r.noted)
+    (λ c. record { before = t.events; after = []; parts = refl; covers = r.covers; untaken = untaken }) r
+
+-- what is said of its end is forgotten
+pub holds_forgot : {t : Told} {link : ℕ} {entry : List ℕ} {peer : Ip} {done : List Turn} {last : Option Turn} {rest left : List ℕ} {waiting closed ending : List Note} {over : Bool} {number next : ℕ}
+    → Holds t link entry peer done last rest left waiting closed ending over number next → Holds t link entry peer done last rest left waiting closed ending false number next
+holds_forgot r = record {
+  arrived = r.arrived;
+  reads = r.reads;
+  spells = r.spells;
+  covers = r.covers;
+  noted = r.noted;
+  pinned = r.pinned;
+  looked = r.looked;
+  picked = r.picked;
+  refused = r.refused;
+  own = r.own;
+  rising = r.rising;
+  numbered = r.numbered;
+  numbered_last = r.numbered_last;
+  whole = r.whole;
+  closes = λ (is : false ≡ true). absurd (let f : ⊥ = cc in f);
+}
 
 cut : (n : ℕ) (xs : List ℕ) → xs ≡ take n xs ++ drop n xs
 cut zero xs = refl
@@ -121,7 +190,7 @@ pub holds_took : {t : Told} {link : ℕ} {entry : List ℕ} {peer : Ip} {done : 
     → Holds (record t { events = t.events ++ took (take n left) ∷ [] }) link entry peer done last rest left' waiting closed ending over number next
 holds_took {t} {rest} {left} {waiting} n {left'} is r =
     event (took (take n left)) (sym (append-nil rest)) (cut n left ∙ ap (λ (l : List ℕ). take n left ++ l) (sym is))
-    (ap (λ (l : List Note). l ++ waiting) (append-nil (notes t.events)) ∙ r.noted) (λ c. ends_more t.events (took (take n left)) (r.closes c)) r
+    (ap (λ (l : List Note). l ++ waiting) (append-nil (notes t.events)) ∙ r.noted) (λ c. ended_more (took (take n left)) (r.closes c)) r
 
 -- a note that waited is told
 pub holds_told : {t : Told} {link : ℕ} {entry : List ℕ} {peer : Ip} {done : List Turn} {last : Option Turn} {rest left : List ℕ} {waiting closed ending : List Note} {over : Bool} {number next : ℕ}
@@ -130,7 +199,7 @@ pub holds_told : {t : Told} {link : ℕ} {entry : List ℕ} {peer : Ip} {done : 
     → Holds (record t { events = t.events ++ noted note ∷ [] }) link entry peer done last rest left waiting' closed ending over number next
 holds_told {t} {rest} note {waiting'} is r =
     event (noted note) (sym (append-nil rest)) refl (append_assoc (notes t.events) (note ∷ []) waiting' ∙ ap (λ (l : List Note). notes t.events ++ l) (sym is) ∙ r.noted)
-    (λ c. ends_more t.events (noted note) (r.closes c)) r
+    (λ c. ended_more (noted note) (r.closes c)) r
 
 -- the note of the last request is told
 pub holds_closed : {t : Told} {link : ℕ} {entry : List ℕ} {peer : Ip} {done : List Turn} {last : Option Turn} {rest left : List ℕ} {waiting : List Note} {over : Bool} {number next : ℕ}
@@ -138,7 +207,7 @@ pub holds_closed : {t : Told} {link : ℕ} {entry : List ℕ} {peer : Ip} {done 
     → Holds t link entry peer done last rest left waiting [] [] over number next
     → Holds (record t { events = t.events ++ noted note ∷ [] }) link entry peer done last rest left waiting (note ∷ []) [] over number next
 holds_closed {t} {link} {done} {rest} {waiting} note none r =
-    event (noted note) (sym (append-nil rest)) refl in_notes (λ c. ends_more t.events (noted note) (r.closes c)) r
+    event (noted note) (sym (append-nil rest)) refl in_notes (λ c. ended_more (noted note) (r.closes c)) r
   where
     before : notes t.events ≡ flat_map (notes_of link) done
     before = sym (append-nil (notes t.events)) ∙ ap (λ (l : List Note). notes t.events ++ l) (sym none) ∙ r.noted ∙ append-nil (flat_map (notes_of link) done ++ []) ∙ append-nil (flat_map (notes_of link) done)
@@ -152,7 +221,7 @@ pub holds_ended : {t : Told} {link : ℕ} {entry : List ℕ} {peer : Ip} {done :
     → Holds t link entry peer done last rest left waiting closed [] over number next
     → Holds (record t { events = t.events ++ noted note ∷ [] }) link entry peer done last rest left waiting closed (note ∷ []) over number next
 holds_ended {t} {link} {done} {rest} {waiting} {closed} note none r =
-    event (noted note) (sym (append-nil rest)) refl in_notes (λ c. ends_more t.events (noted note) (r.closes c)) r
+    event (noted note) (sym (append-nil rest)) refl in_notes (λ c. ended_more (noted note) (r.closes c)) r
   where
     before : notes t.events ≡ flat_map (notes_of link) done ++ closed
     before = sym (append-nil (notes t.events)) ∙ ap (λ (l : List Note). notes t.events ++ l) (sym none) ∙ r.noted ∙ append-nil (flat_map (notes_of link) done ++ closed)
@@ -185,6 +254,10 @@ fresh_turn index item ask p = record {
   whole = false;
 }
 
+fresh_unknown : (index : ℕ) (item : List ℕ) (ask : Ask) (p : Plan) → IsReplyKnown (fresh_turn index item ask p) → ⊥
+fresh_unknown index item ask p (inl whole) = let e : false ≡ true = whole in let f : ⊥ = cc in f
+fresh_unknown index item ask p (inr (r, b, asked, back, given_)) = let e : None ≡ Some b = back in let f : ⊥ = cc in f
+
 -- the next request is pinned
 pub holds_pinned : {t : Told} {link : ℕ} {entry : List ℕ} {peer : Ip} {done : List Turn} {rest left : List ℕ} {waiting closed ending : List Note} {over : Bool} {number next : ℕ}
     (item : List ℕ) (ask : Ask) (p : Plan) {rest' : List ℕ} → rest ≡ item ++ rest' → number ≤ p.number
@@ -194,17 +267,20 @@ holds_pinned {t} {link} {entry} {peer} {done} {rest} {left} {number} {next} item
   arrived = r.arrived;
   reads = r.reads ∙ ap (λ (l : List ℕ). (flat_map item_of done ++ []) ++ l) in_rest ∙ ap (λ (l : List ℕ). l ++ (item ++ rest')) (append-nil (flat_map item_of done)) ∙ sym (append_assoc (flat_map item_of done) item rest');
   spells = add_last reply_of done (fresh_turn next item ask p) (taken t.events ++ left) r.spells refl;
+  covers = r.covers;
   noted = r.noted;
   pinned = ap (λ (l : List Plan). l ++ p ∷ []) (r.pinned ∙ append-nil (flat_map pin_of done));
   looked = add_last looks_of done (fresh_turn next item ask p) t.looks r.looked refl;
   picked = add_last picks_of done (fresh_turn next item ask p) t.picks r.picked refl;
   refused = add_last spents_of done (fresh_turn next item ask p) t.spents r.refused refl;
+  own = r.own;
   rising = rises_more 0 t.pins number p r.rising le;
   numbered = r.numbered;
   numbered_last = refl;
   whole = r.whole;
-  closes = r.closes;
+  closes = λ c. ended_last (r.closes c) (λ d. absurd (fresh_unknown next item ask p d));
 }
+
 
 -- the same of the last request, but for its answer
 pub record SameTurn (u v : Turn) : Type 0 where
@@ -215,26 +291,60 @@ pub record SameTurn (u v : Turn) : Type 0 where
   pub picks : v.picks ≡ u.picks
   pub spents : v.spents ≡ u.spents
 
+-- a number that is none of these may follow them
+distinct_push : (ns : List ℕ) (n : ℕ) → AllByRecursion (λ (m : ℕ). m ≢ n) ns → AreDistinct ns → AreDistinct (ns ++ n ∷ [])
+distinct_push [] n other d = (tt, tt)
+distinct_push (m ∷ ns) n other d = (all_both (λ (k : ℕ). k ≢ m) ns (n ∷ []) d.0 ((λ (is : n ≡ m). other.0 (sym is)), tt), distinct_push ns n other.1 d.1)
+
+-- the last request is on the link that it was on
+pub own_same : (done : List Turn) (u v : Turn) → links_of v.back ≡ links_of u.back → AreDistinct (of_all backs_of done (Some u)) → AreDistinct (of_all backs_of done (Some v))
+own_same done u v is d = subst AreDistinct (ap (λ (l : List ℕ). flat_map backs_of done ++ l) (sym is)) d
+
+-- it is on a link that none of the others was on
+pub own_new : (done : List Turn) (u v : Turn) (link : ℕ) → links_of u.back ≡ [] → links_of v.back ≡ link ∷ [] → AllByRecursion (λ (n : ℕ). n ≢ link) (flat_map backs_of done)
+    → AreDistinct (of_all backs_of done (Some u)) → AreDistinct (of_all backs_of done (Some v))
+own_new done u v link none one other d =
+    subst AreDistinct (ap (λ (l : List ℕ). flat_map backs_of done ++ l) (sym one))
+    (distinct_push (flat_map backs_of done) link other (subst AreDistinct (ap (λ (l : List ℕ). flat_map backs_of done ++ l) none ∙ append-nil (flat_map backs_of done)) d))
+
 -- the last request's reply goes on
 pub holds_replied : {t : Told} {link : ℕ} {entry : List ℕ} {peer : Ip} {done : List Turn} {u : Turn} {rest left : List ℕ} {waiting closed ending : List Note} {over : Bool} {number next : ℕ}
-    (v : Turn) (more : List ℕ) {left' : List ℕ} → SameTurn u v → v.reply ≡ u.reply ++ more → left' ≡ left ++ more
+    (v : Turn) (more : List ℕ) {left' : List ℕ} → SameTurn u v → v.reply ≡ u.reply ++ more → left' ≡ left ++ more → (over ≡ true → IsReplyKnown v → IsReplyKnown u ⊎ (left' ≢ []))
+    → (AreDistinct (of_all backs_of done (Some u)) → AreDistinct (of_all backs_of done (Some v)))
     → Holds t link entry peer done (Some u) rest left waiting closed ending over number next
     → Holds t link entry peer done (Some v) rest left' waiting closed ending over number next
-holds_replied {t} {link} {entry} {peer} {done} {u} {rest} {left} v more {left'} same in_reply in_left r = record {
+holds_replied {t} {link} {entry} {peer} {done} {u} {rest} {left} v more {left'} same in_reply in_left decides own r = record {
   arrived = r.arrived;
   reads = r.reads ∙ ap (λ (l : List ℕ). (flat_map item_of done ++ l) ++ rest) (sym same.item);
-  spells = ap (λ (l : List ℕ). taken t.events ++ l) in_left ∙ sym (append_assoc (taken t.events) left more) ∙ ap (λ (l : List ℕ). l ++ more) r.spells ∙ append_assoc (flat_map reply_of done) u.reply more ∙ ap (λ (l : List ℕ). flat_map reply_of done ++ l) (sym in_reply);
+  spells = spelled;
+  covers = r.covers;
   noted = r.noted;
   pinned = r.pinned ∙ ap (λ (p : Plan). flat_map pin_of done ++ p ∷ []) (sym same.plan);
   looked = r.looked ∙ ap (λ (l : List Look). flat_map looks_of done ++ l) (sym same.looks);
   picked = r.picked ∙ ap (λ (l : List NodePick). flat_map picks_of done ++ l) (sym same.picks);
   refused = r.refused ∙ ap (λ (l : List ℕ). flat_map spents_of done ++ l) (sym same.spents);
+  own = own r.own;
   rising = r.rising;
   numbered = r.numbered;
   numbered_last = same.index ∙ r.numbered_last;
   whole = r.whole;
-  closes = r.closes;
+  closes = λ c. ended_last (r.closes c) (λ d. untaken (r.closes c) (decides c d));
 }
+  where
+    spelled : taken t.events ++ left' ≡ flat_map reply_of done ++ v.reply
+    spelled = ap (λ (l : List ℕ). taken t.events ++ l) in_left ∙ sym (append_assoc (taken t.events) left more) ∙ ap (λ (l : List ℕ). l ++ more) r.spells ∙ append_assoc (flat_map reply_of done) u.reply more ∙ ap (λ (l : List ℕ). flat_map reply_of done ++ l) (sym in_reply)
+
+    untaken : (x : EndedIn t.events done (Some u)) → IsReplyKnown u ⊎ (left' ≢ []) → IsUntaken (taken x.before) done v
+    untaken x (inl decided) =
+        let n : length (taken x.before) < length (flat_map reply_of done ++ u.reply) = x.untaken decided in
+        let e : flat_map reply_of done ++ v.reply ≡ (flat_map reply_of done ++ u.reply) ++ more = ap (λ (l : List ℕ). flat_map reply_of done ++ l) in_reply ∙ sym (append_assoc (flat_map reply_of done) u.reply more) in
+        let l : length (flat_map reply_of done ++ v.reply) ≡ length ((flat_map reply_of done ++ u.reply) ++ more) = ap (length {A = ℕ}) e in
+        let k : length ((flat_map reply_of done ++ u.reply) ++ more) ≡ length (flat_map reply_of done ++ u.reply) + length more = length-append (flat_map reply_of done ++ u.reply) more in
+        omega (arith, n, l, k)
+    untaken x (inr some) =
+        let n : length (taken x.before) ≤ length (taken t.events) = early_taken x in
+        let m : length (taken t.events) < length (flat_map reply_of done ++ v.reply) = some_left (taken t.events) left' done v spelled some in
+        omega (arith, n, m)
 
 numbered_more : (first : ℕ) (done : List Turn) (next : ℕ) (u : Turn) → AreNumbered first done next → u.index ≡ next → AreNumbered first (done ++ u ∷ []) (next + 1)
 numbered_more first [] next u h is = (is ∙ sym h, ap (λ (n : ℕ). n + 1) h)
@@ -242,23 +352,25 @@ numbered_more first (t ∷ done) next u h is = (h.0, numbered_more (first + 1) d
 
 -- the last request has its whole reply and its note
 pub holds_done : {t : Told} {link : ℕ} {entry : List ℕ} {peer : Ip} {done : List Turn} {u : Turn} {rest left : List ℕ} {waiting : List Note} {over : Bool} {number next : ℕ}
-    → u.whole ≡ true
+    → u.whole ≡ true → left ≡ []
     → Holds t link entry peer done (Some u) rest left waiting [] [] over number next
-    → Holds t link entry peer (done ++ u ∷ []) None rest left (waiting ++ note_of link u ∷ []) [] [] over number (next + 1)
-holds_done {t} {link} {done} {u} {rest} {left} {waiting} {next} whole r = record {
+    → Holds t link entry peer (done ++ u ∷ []) None rest left (waiting ++ note_of link u ∷ []) [] [] false number (next + 1)
+holds_done {t} {link} {done} {u} {rest} {left} {waiting} {next} whole none r = record {
   arrived = r.arrived;
   reads = r.reads ∙ ap (λ (l : List ℕ). l ++ rest) (close_list item_of done u (of_all item_of done (Some u)) refl);
   spells = close_list reply_of done u (taken t.events ++ left) r.spells;
+  covers = ([], close_list reply_of done u (taken t.events) (sym (append-nil (taken t.events)) ∙ ap (λ (l : List ℕ). taken t.events ++ l) (sym none) ∙ r.spells));
   noted = in_notes;
   pinned = close_list pin_of done u t.pins r.pinned;
   looked = close_list looks_of done u t.looks r.looked;
   picked = close_list picks_of done u t.picks r.picked;
   refused = close_list spents_of done u t.spents r.refused;
+  own = subst AreDistinct (close_list backs_of done u (of_all backs_of done (Some u)) refl) r.own;
   rising = r.rising;
   numbered = numbered_more 1 done next u r.numbered r.numbered_last;
   numbered_last = tt;
   whole = all_both IsWhole done (u ∷ []) r.whole (whole, tt);
-  closes = r.closes;
+  closes = λ (is : false ≡ true). absurd (let f : ⊥ = cc in f);
 }
   where
     before : notes t.events ++ waiting ≡ flat_map (notes_of link) done
@@ -270,11 +382,24 @@ holds_done {t} {link} {done} {u} {rest} {left} {waiting} {next} whole r = record
     in_notes : notes t.events ++ (waiting ++ note_of link u ∷ []) ≡ (flat_map (notes_of link) (done ++ u ∷ []) ++ []) ++ []
     in_notes = sym (append_assoc (notes t.events) waiting (note_of link u ∷ [])) ∙ ap (λ (l : List Note). l ++ note_of link u ∷ []) before ∙ sym after
 
+within_more : (link : ℕ) (steps : List Step) (note : Note) (done : List Turn) (rest : List ℕ) → IsHeadPart rest ⊎ EndedWithin (history link steps) done → IsHeadPart rest ⊎ EndedWithin (history link (steps ++ happened link (noted note) ∷ [])) done
+within_more link steps note done rest (inl part) = inl part
+within_more link steps note done rest (inr x) = inr (record {
+  front = x.front;
+  turn = x.turn;
+  done_is = x.done_is;
+  before = x.before;
+  after = x.after ++ noted note ∷ [];
+  parts = history_more link steps (noted note) ∙ ap (λ (l : List LinkEvent). l ++ noted note ∷ []) x.parts ∙ append_assoc x.before (gave_end ∷ x.after) (noted note ∷ []);
+  covers = x.covers;
+  short = x.short;
+})
+
 -- an end stays what it is while notes are told
 pub end_told : (cause : EndCause) (link : ℕ) (steps : List Step) (note : Note) (done : List Turn) (last : Option Turn) (rest left : List ℕ)
     → EndHolds cause (history link steps) done last rest left (failures link steps ≢ []) (stops steps ≢ [])
     → EndHolds cause (history link (steps ++ happened link (noted note) ∷ [])) done last rest left (failures link (steps ++ happened link (noted note) ∷ []) ≢ []) (stops (steps ++ happened link (noted note) ∷ []) ≢ [])
-end_told Client link steps note done last rest left h = (rw (history_more link steps (noted note)) (ends_more (history link steps) (noted note) h.0), h.1, h.2, h.3, h.4)
+end_told Client link steps note done last rest left h = (rw (history_more link steps (noted note)) (ends_more (history link steps) (noted note) h.0), h.1, h.2, h.3, within_more link steps note done rest h.4)
 end_told ClientFailed link steps note done last rest left h = rw (failures_happened link link steps (noted note)) h
 end_told Asked link steps note done last rest left h = h
 end_told Refused link steps note done last rest left h = h
@@ -303,11 +428,13 @@ served steps plans link entry peer done last rest left waiting over number next 
   arrived = r.arrived;
   reads = r.reads;
   spells = r.spells;
+  covers = r.covers;
   noted = sym (append-nil (notes (history link steps))) ∙ ap (λ (l : List Note). notes (history link steps) ++ l) (sym none) ∙ r.noted;
   pinned = r.pinned;
   looked = r.looked;
   picked = r.picked;
   refused = r.refused;
+  own = r.own;
   published = held;
   rising = (number, r.rising);
   numbered = (next, r.numbered, r.numbered_last);

@@ -4,26 +4,20 @@ use Rattle.std.specs.List.{flat_map, AllByRecursion}
 use Rattle.ip_net.specs.declared.ip.Ip.{Ip}
 use Rattle.head_view.specs.Lines.{line_feeds}
 use Rattle.http_wire.specs.declared.message.Request.{Request}
-use Rattle.http_wire.specs.declared.message.Reply.{Reply}
-use Rattle.back_machine.specs.Replies.{HasReply, IsWhole as IsWholeContent}
-use Rattle.link_world.specs.Log.{given, taken, notes, ends}
+use Rattle.link_world.specs.Log.{given, taken, notes}
 use Rattle.link_world.specs.declared.note.Note.{Note}
 use Rattle.link_world.specs.declared.note.EndCause.{EndCause}
 use Rattle.link_world.specs.declared.note.EndCause.TheVariants.{Client, ClientFailed, Cut, Stopped}
 use Rattle.conversation.specs.Steps.{Step, history}
 use Rattle.conversation.specs.Asks.{asks, IsItem, line_limit}
-use Rattle.conversation.specs.Turns.{Turn, BackLink}
-use Rattle.conversation.specs.Served.{of_all, IfLast, notes_of, reply_of, IsAnswered, IsWhole, EndsAfter}
+use Rattle.conversation.specs.Turns.{Turn, BackLink, HasWholeReply}
+use Rattle.conversation.specs.Served.{of_all, IfLast, notes_of, reply_of, IsAnswered, IsWhole, TookReplies, EndsAfter, EndedWithin}
 
 -- the bytes are one whole valid request of a kind that is served, and no part of it is over the limits
 pub record IsRequest (peer : Ip) (item : List ℕ) : Type 0 where
   pub request : Request
   pub valid : IsItem peer item (asks request)
   pub few : line_feeds item ≤ line_limit
-
--- the bytes begin with a whole valid reply to a request of this method
-abbrev pub HasWholeReply : List ℕ → List ℕ → Type 0
-HasWholeReply method gave = (a : Reply) × (content : List ℕ) × HasReply method gave a content × IsWholeContent a content
 
 -- all of these bytes
 abbrev pub joined : List (List ℕ) → List ℕ
@@ -48,9 +42,10 @@ ComesEarly _ = ⊥
 abbrev pub IsLast : (Turn → Type 0) → Option Turn → Type 0
 IsLast P last = (t : Turn) × (last ≡ Some t) × P t
 
--- There are no later requests, or the last that was done ends the connection, or the client ended while that was served.
+-- There are no later requests, or the last that was done ends the connection, or the client ended while that one was
+-- served.
 abbrev pub IsLastDone : EndCause → (ended : Type 0) → List Turn → (later : List (List ℕ)) → Type 0
-IsLastDone cause ended done later = (later ≡ []) ⊎ EndsAfter cause done ⊎ ((cause ≡ Client) × ended × (done ≢ []))
+IsLastDone cause ended done later = (later ≡ []) ⊎ EndsAfter cause done ⊎ ((cause ≡ Client) × ended)
 
 -- Why the requests after those that are done have no whole reply that was taken: there is no reason but the end; or the
 -- client's link failed; or it doesn't take what is left of a whole reply; or a server gave none, and the end is a cut or a stop.
@@ -78,5 +73,6 @@ pub record IsComplete (cause : EndCause) (stuck failed : Type 0) (link : ℕ) (e
   pub answered : AllByRecursion (IsAnswered steps entry peer) done × IfLast (IsAnswered steps entry peer) last
   pub whole : AllByRecursion IsWhole done
   pub spells : taken (history link steps) ++ left ≡ of_all reply_of done last
+  pub covers : TookReplies done (taken (history link steps))
   pub noted : (more : List Note) × (notes (history link steps) ≡ flat_map (notes_of link) done ++ more)
-  pub ending : IsOver cause stuck failed (ends (history link steps) ≢ []) done last later left
+  pub ending : IsOver cause stuck failed (EndedWithin (history link steps) done) done last later left

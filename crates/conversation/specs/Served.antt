@@ -1,13 +1,14 @@
 -- One connection that was served: its bytes in, its bytes out and its notes.
-use Rattle.std.specs.Prelude.{◌≡◌, ◌≢◌, ℕ, ◌+◌, ◌≤◌, ◌⊎◌, true, false, List, [], ◌∷◌, ◌++◌, Option, Some, None}
+use Rattle.std.specs.Prelude.{◌≡◌, ◌≢◌, ℕ, ◌+◌, ◌<◌, ◌≤◌, ◌⊎◌, true, false, List, [], ◌∷◌, ◌++◌, length, Option, Some, None}
 use Rattle.std.specs.List.{flat_map, AllByRecursion, Contains}
 use Rattle.ip_net.specs.declared.ip.Ip.{Ip}
 use Rattle.httparse.specs.Grammar.{MayBecomeRequest}
 use Rattle.head_view.specs.Scans.{HasHead}
+use Rattle.http_wire.specs.Spelling.{reply_text}
 use Rattle.http_wire.specs.declared.message.Request.{Request}
 use Rattle.http_wire.specs.declared.message.Reply.{Reply}
 use Rattle.back_machine.specs.Replies.{HasReply, IsShort}
-use Rattle.link_world.specs.Log.{LinkEvent, came, given, taken, notes, ends}
+use Rattle.link_world.specs.Log.{LinkEvent, came, gave_end, given, taken, notes, ends}
 use Rattle.link_world.specs.declared.note.Note.{Note}
 use Rattle.link_world.specs.declared.note.NoteBody.TheVariants as body
 use Rattle.link_world.specs.declared.note.Look.{Look}
@@ -18,7 +19,7 @@ use Rattle.link_world.specs.declared.note.EndCause.TheVariants.{Client, ClientFa
 use Rattle.conversation.specs.Plans.{Plan}
 use Rattle.conversation.specs.Steps.{Step, history, pins, looks, picks, spents}
 use Rattle.conversation.specs.Asks.{IsItem, asks, line_limit}
-use Rattle.conversation.specs.Turns.{BackLink, Turn, note_of, end_of, Answers, IsShown}
+use Rattle.conversation.specs.Turns.{BackLink, Turn, links_of, note_of, end_of, closes, Answers, IsShown}
 
 -- a list of each request, and of a last one where there is one
 abbrev pub of_last : {A : Type 0} → (Turn → List A) → Option Turn → List A
@@ -50,8 +51,16 @@ picks_of t = t.picks
 abbrev pub spents_of : Turn → List ℕ
 spents_of t = t.spents
 
+abbrev pub backs_of : Turn → List ℕ
+backs_of t = links_of t.back
+
 abbrev pub notes_of : ℕ → Turn → List Note
 notes_of link t = note_of link t ∷ []
+
+-- no two of these numbers are the same
+abbrev pub AreDistinct : List ℕ → Type 0
+AreDistinct [] = Unit {0}
+AreDistinct (n ∷ ns) = AllByRecursion (λ (m : ℕ). m ≢ n) ns × AreDistinct ns
 
 -- the requests are numbered from the first number up, and the next number is this
 abbrev pub AreNumbered : ℕ → List Turn → ℕ → Type 0
@@ -72,6 +81,10 @@ pub record IsAnswered (steps : List Step) (entry : List ℕ) (peer : Ip) (t : Tu
 -- its whole reply was spelled
 abbrev pub IsWhole : Turn → Type 0
 IsWhole t = t.whole ≡ true
+
+-- what was taken begins with the whole replies of these requests
+abbrev pub TookReplies : List Turn → List ℕ → Type 0
+TookReplies done took = (more : List ℕ) × (took ≡ flat_map reply_of done ++ more)
 
 -- the connection goes on after it
 abbrev pub IsKept : Turn → Type 0
@@ -97,17 +110,31 @@ pub record IsCutBy (link : ℕ) (t : Turn) : Type 0 where
   pub content : List ℕ
   pub came : HasReply request.method (given back.events) answer content
   pub short : IsShort answer content
+  -- all of it is spelled for the client
+  pub text : t.reply ≡ reply_text answer request.version (closes t) ++ content
 
 -- the bytes are a part of a head, of which more has to come
 pub record IsHeadPart (rest : List ℕ) : Type 0 where
   pub unfinished : ¬ (HasHead line_limit rest)
   pub continues : MayBecomeRequest rest
 
+-- The client ended while the last of these requests was served: by then it had taken the whole replies of the others, and
+-- not all of this one's.
+pub record EndedWithin (history : List LinkEvent) (done : List Turn) : Type 0 where
+  pub front : List Turn
+  pub turn : Turn
+  pub done_is : done ≡ front ++ turn ∷ []
+  pub before : List LinkEvent
+  pub after : List LinkEvent
+  pub parts : history ≡ before ++ gave_end ∷ after
+  pub covers : TookReplies front (taken before)
+  pub short : length (taken before) < length (flat_map reply_of front ++ turn.reply)
+
 -- When each end comes. `rest` is what the client gave and no request has, `left` what of the replies it didn't take,
 -- `last` a request whose whole reply it didn't take.
 abbrev pub EndHolds : EndCause → List LinkEvent → (done : List Turn) → Option Turn → (rest left : List ℕ) → (failed stopped : Type 0) → Type 0
 EndHolds Client history done last rest left failed stopped =
-    (ends history ≢ []) × (left ≡ []) × (last ≡ None) × AllByRecursion IsKept done × (IsHeadPart rest ⊎ (done ≢ []))
+    (ends history ≢ []) × (left ≡ []) × (last ≡ None) × AllByRecursion IsKept done × (IsHeadPart rest ⊎ EndedWithin history done)
 EndHolds ClientFailed history done last rest left failed stopped = failed
 EndHolds Asked history done last rest left failed stopped = (left ≡ []) × (last ≡ None) × EndsAfter Asked done
 EndHolds Refused history done last rest left failed stopped = (left ≡ []) × (last ≡ None) × EndsAfter Refused done
@@ -123,7 +150,7 @@ abbrev pub end_note : ℕ → EndCause → Note
 end_note link cause = record { link = link; body = body.End cause }
 
 -- The connection on this link, which came at this entry point from this address: `done` are the requests whose whole
--- replies were spelled, one after another, `last` a further one that was pinned when the connection ended. `failed` and
+-- replies were taken, one after another, `last` a further one that was pinned when the connection ended. `failed` and
 -- `stopped` say that the client's link failed and that a stop was asked for.
 pub record Served (plans : List Plan) (link : ℕ) (entry : List ℕ) (peer : Ip) (steps : List Step) (failed stopped : Type 0) : Type 0 where
   pub done : List Turn
@@ -134,14 +161,17 @@ pub record Served (plans : List Plan) (link : ℕ) (entry : List ℕ) (peer : Ip
   pub arrived : (more : List LinkEvent) × (history link steps ≡ came entry peer ∷ more)
   -- the client's bytes are cut into the requests, and then this rest
   pub reads : given (history link steps) ≡ of_all item_of done last ++ rest
-  -- what it took is the replies in order, but for what is left
+  -- what it took is the replies in order, but for what is left; that of `last` alone may be cut
   pub spells : taken (history link steps) ++ left ≡ of_all reply_of done last
+  pub covers : TookReplies done (taken (history link steps))
   -- each request has its note, and then the end has its
   pub noted : notes (history link steps) ≡ of_all (notes_of link) done last ++ end_note link cause ∷ []
   pub pinned : pins steps ≡ of_all pin_of done last
   pub looked : looks steps ≡ of_all looks_of done last
   pub picked : picks steps ≡ of_all picks_of done last
   pub refused : spents steps ≡ of_all spents_of done last
+  -- no two requests are sent on one link
+  pub own : AreDistinct (of_all backs_of done last)
   pub published : AllByRecursion (Contains plans) (pins steps)
   pub rising : (to : ℕ) × Rises 0 (pins steps) to
   pub numbered : (next : ℕ) × AreNumbered 1 done next × IfLast (λ t. t.index ≡ next) last

@@ -185,10 +185,18 @@ abbrev pub HasFailed : List ℕ → Ip → ℕ → Turn → Type 0
 HasFailed entry peer link t = (r : Request) × (row : ℕ) × (b : BackLink) × IsSent entry peer r row b t
     × (b.link ≡ link) × (b.faults ≢ []) × HasNoReplyYet r.method (given b.events)
 
--- what the link gave is no valid reply, whatever might follow, or it ended before there was one
+-- the link didn't fail, and what it gave is no valid reply, whatever might follow, or it ended before there was one
 abbrev pub HasGivenNone : List ℕ → Ip → ℕ → Turn → Type 0
 HasGivenNone entry peer link t = (r : Request) × (row : ℕ) × (b : BackLink) × IsSent entry peer r row b t
-    × (b.link ≡ link) × (HasNoReply r.method (given b.events) ⊎ ((ends b.events ≢ []) × HasNoReplyYet r.method (given b.events)))
+    × (b.link ≡ link) × (b.faults ≡ []) × (HasNoReply r.method (given b.events) ⊎ ((ends b.events ≢ []) × HasNoReplyYet r.method (given b.events)))
+
+-- the bytes begin with a whole valid reply to a request of this method
+abbrev pub HasWholeReply : List ℕ → List ℕ → Type 0
+HasWholeReply method gave = (a : Reply) × (content : List ℕ) × HasReply method gave a content × IsWhole a content
+
+-- its server's link gave a whole valid reply
+abbrev pub HasAnswer : Turn → Type 0
+HasAnswer t = (r : Request) × (b : BackLink) × (t.ask ≡ asks r) × (t.back ≡ Some b) × HasWholeReply r.method (given b.events)
 
 -- the link gave this reply, and the client gets its head and a front of the content that came
 pub record PassesOn (r : Request) (b : BackLink) (t : Turn) : Type 0 where
@@ -199,6 +207,8 @@ pub record PassesOn (r : Request) (b : BackLink) (t : Turn) : Type 0 where
   pub status : t.status ≡ answer.status
   pub text : t.reply ≡ reply_text answer r.version (closes t) ++ content
   pub all : t.whole ≡ true → IsWhole answer content
+  -- a link that fails gives nothing more
+  pub sound : t.whole ≡ true → b.faults ≡ []
 
 abbrev pub IsPassed : List ℕ → Ip → Turn → Type 0
 IsPassed entry peer t = (r : Request) × (row : ℕ) × (b : BackLink) × IsSent entry peer r row b t × PassesOn r b t

@@ -95,7 +95,7 @@ asked_same event.Stop c b m h = tt
 
 pub driven_by : (e : ConnEvent) (c b d x : Conn) (old new : List Note)
     → b.client ≡ c.client → b.current ≡ c.current → pending_of b ≡ pending_of c → (IsPrompt c → IsPrompt b) → ((steps : List Step) → Reached steps c → Reached steps b)
-    → d.client ≡ b.client → (IsPrompt b → IsPrompt d) → ((steps : List Step) → IsFresh e steps → Reached steps b → Reached (steps ++ step_of b e ∷ []) d)
+    → d.client ≡ b.client → (IsPrompt b → IsPrompt d) → (IsPrompt b → (steps : List Step) → IsFresh e steps → Reached steps b → Reached (steps ++ step_of b e ∷ []) d)
     → Noted d x old new → IsDrained x → Driven (step_of c e) c x old new
 driven_by e c b d x old new client current pending prompt_b reached_b client_d prompt_d reached_d n drained = record {
   client = n.client ∙ client_d ∙ client;
@@ -103,8 +103,8 @@ driven_by e c b d x old new client current pending prompt_b reached_b client_d p
   notes = n.notes;
   kept = n.kept;
   drained = drained;
-  reached = λ steps follows r. subst (λ (xs : List Step). Reached xs x) (same steps)
-      (n.reached (steps ++ step_of b e ∷ []) (reached_d steps (fresh_by e c steps follows) (reached_b steps r)));
+  reached = λ prompt steps follows r. subst (λ (xs : List Step). Reached xs x) (same steps)
+      (n.reached (steps ++ step_of b e ∷ []) (reached_d (prompt_b prompt) steps (fresh_by e c steps follows) (reached_b steps r)));
 }
   where
     same : (steps : List Step) → (steps ++ step_of b e ∷ []) ++ map (noting d.client.link) n.notes ≡ steps ++ step_of c e ∷ map (noting c.client.link) n.notes
@@ -168,7 +168,7 @@ halted_by c d x old new cause client over reached_d n drained = record {
   notes = n.notes;
   kept = n.kept;
   drained = drained;
-  reached = λ steps follows r. subst (λ (xs : List Step). Reached xs x) (same steps) (n.reached (steps ++ stopped ∷ []) (reached_d steps r));
+  reached = λ prompt steps follows r. subst (λ (xs : List Step). Reached xs x) (same steps) (n.reached (steps ++ stopped ∷ []) (reached_d steps r));
 }
   where
     same : (steps : List Step) → (steps ++ stopped ∷ []) ++ map (noting d.client.link) n.notes ≡ steps ++ stopped ∷ map (noting c.client.link) n.notes

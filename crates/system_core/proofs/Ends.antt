@@ -9,7 +9,7 @@ use Rattle.conversation.proofs.Holdings.{served}
 use Rattle.conn_machine.specs.declared.conn.Conn.{Conn}
 use Rattle.conn_machine.specs.declared.parts.Phase.{Phase}
 use Rattle.conn_machine.specs.declared.parts.Phase.TheVariants.{Open, Broken, Over, Told}
-use Rattle.conn_machine.specs.Reached.{Reached, PhaseHolds, IsFinished, IsTold, closed_by, ending_note}
+use Rattle.conn_machine.specs.Reached.{Reached, PhaseHolds, IsFinished, IsTold, closed_by, ending_note, open_over}
 use Rattle.std.proofs.Common.{subst, refl, OnOk, Result, Ok, Err}
 use Rattle.system_core.specs.Happens.{next}
 use Rattle.system_core.specs.Shows.{Lawful, Ran}
@@ -35,7 +35,7 @@ served_conn steps plans c r finished held = by c.phase refl finished.1 r.phase
     by Broken e t h = absurd t
     by (Over cause) e t h = absurd t
     by (Told cause) e t h =
-        served steps plans c.client.link c.client.entry c.client.peer r.done r.last r.rest r.left c.notes.items c.over c.current.number r.kept.next cause finished.0
-        (subst (λ (b : Bool). Holds (told c.client.link steps) c.client.link c.client.entry c.client.peer r.done r.last r.rest r.left c.notes.items (closed_by b c.client.link r.last) (end_note c.client.link cause ∷ []) c.over c.current.number r.kept.next) h.0
-        (subst (λ (p : Phase). Holds (told c.client.link steps) c.client.link c.client.entry c.client.peer r.done r.last r.rest r.left c.notes.items (closed_by c.current.pinned c.client.link r.last) (ending_note c.client.link p) c.over c.current.number r.kept.next) e r.kept.holds))
+        served steps plans c.client.link c.client.entry c.client.peer r.done r.last r.rest r.left c.notes.items (open_over c.phase c.over) c.current.number r.kept.next cause finished.0
+        (subst (λ (b : Bool). Holds (told c.client.link steps) c.client.link c.client.entry c.client.peer r.done r.last r.rest r.left c.notes.items (closed_by b c.client.link r.last) (end_note c.client.link cause ∷ []) (open_over c.phase c.over) c.current.number r.kept.next) h.0
+        (subst (λ (p : Phase). Holds (told c.client.link steps) c.client.link c.client.entry c.client.peer r.done r.last r.rest r.left c.notes.items (closed_by c.current.pinned c.client.link r.last) (ending_note c.client.link p) (open_over c.phase c.over) c.current.number r.kept.next) e r.kept.holds))
         r.kept.sound h.1 held

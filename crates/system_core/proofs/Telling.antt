@@ -93,7 +93,7 @@ shows_told r old new i c step owners picks shown at aside d owners_are picks_are
           (rw (steps_same i r.told (step ∷ map (noting c.client.link) d.driven.notes))
           (subst (λ (x : Conn). IsConn (steps_of i r.told ++ step ∷ map (noting c.client.link) d.driven.notes) x)
           (sym (get_set_same old.clients.conns.items i d.after e (ap (λ (x : ℕ). slice_get (set old.clients.conns.items i d.after) x) (sym same) ∙ g)))
-          (record { reached = d.driven.reached (steps_of i r.told) follows (shown.conns i c at).reached; prompt = d.driven.prompt (shown.conns i c at).prompt; drained = d.driven.drained })))
+          (record { reached = d.driven.reached (shown.conns i c at).prompt (steps_of i r.told) follows (shown.conns i c at).reached; prompt = d.driven.prompt (shown.conns i c at).prompt; drained = d.driven.drained })))
     ]
 
     link_told : (l j : ℕ) → length owners ≤ l → IsNew l (steps_of j (r.told ++ map (tells i) (step ∷ map (noting c.client.link) d.driven.notes)))

@@ -44,7 +44,7 @@ pub record Driven (step : Step) (c d : Conn) (old new : List Note) : Type 0 wher
   pub notes : List Note
   pub kept : new ≡ old ++ notes
   pub drained : IsDrained d
-  pub reached : (steps : List Step) → MayFollow step steps → Reached steps c
+  pub reached : IsPrompt c → (steps : List Step) → MayFollow step steps → Reached steps c
       → Reached (steps ++ step ∷ map (noting c.client.link) notes) d
 
 -- the same of the connection at a place

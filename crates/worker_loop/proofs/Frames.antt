@@ -179,11 +179,13 @@ served_weaker {f} {g} {link} {entry} {peer} {steps} {A} {B} {A'} {B'} grew ka kb
   arrived = s.arrived;
   reads = s.reads;
   spells = s.spells;
+  covers = s.covers;
   noted = s.noted;
   pinned = s.pinned;
   looked = s.looked;
   picked = s.picked;
   refused = s.refused;
+  own = s.own;
   published = grew_all f g (pins steps) grew s.published;
   rising = s.rising;
   numbered = s.numbered;

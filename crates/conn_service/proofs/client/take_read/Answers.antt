@@ -21,13 +21,13 @@ pub returns-in_err-end-in-End-clause-went : goal.returns-in_err-end-in-End-claus
 returns-in_err-end-in-End-clause-went c = λ s t l m desk linked did lately.
     let seen = subst (λ (r : LinkRead). ReadDid s c.args.conn.now.client.link r c.args.buffer.now t) c.in-End.is did in
     went_event c.args.conn.now.client.link gave_end linked (of_client refl) (λ ne. refl) refl seen lately.only
-    (keeps_open c.requires.open c.end.ensures.client c.end.ensures.server c.end.ensures.number) c.end.ensures.reached
+    (keeps_open c.requires.open c.end.ensures.client c.end.ensures.server c.end.ensures.number) (c.end.ensures.reached c.requires.prompt)
 
 pub returns-in_ok-end-in-End-clause-went : goal.returns-in_ok-end-in-End-clause-went
 returns-in_ok-end-in-End-clause-went c = λ s t l m desk linked did lately.
     let seen = subst (λ (r : LinkRead). ReadDid s c.args.conn.now.client.link r c.args.buffer.now t) c.in-End.is did in
     went_event c.args.conn.now.client.link gave_end linked (of_client refl) (λ ne. refl) refl seen lately.only
-    (keeps_open c.requires.open c.end.ensures.client c.end.ensures.server c.end.ensures.number) c.end.ensures.reached
+    (keeps_open c.requires.open c.end.ensures.client c.end.ensures.server c.end.ensures.number) (c.end.ensures.reached c.requires.prompt)
 
 pub returns-in-NotYet-clause-went : goal.returns-in-NotYet-clause-went
 returns-in-NotYet-clause-went c = λ s t l m desk linked did lately.

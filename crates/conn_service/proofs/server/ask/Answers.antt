@@ -7,7 +7,7 @@ use Rattle.conn_service.proofs.Counts.{counted_same, counted_write, stays_work, 
 use Rattle.conn_service.proofs.server.ask.Goals as goal
 
 pub returns-in_default-clause-went : goal.returns-in_default-clause-went
-returns-in_default-clause-went g c = λ desk. went_same c.requires
+returns-in_default-clause-went g c = λ desk. went_same c.requires.linked
 
 pub returns-in_default-clause-server : goal.returns-in_default-clause-server
 returns-in_default-clause-server g c = λ ex. (ex, refl)
@@ -16,13 +16,13 @@ pub returns-in_default-clause-still : goal.returns-in_default-clause-still
 returns-in_default-clause-still g c = λ e. (stays_work _ (work_same _), λ ex some. absurd (c.in_default.ensures ex))
 
 pub returns-in_err-reserve-clause-went : goal.returns-in_err-reserve-clause-went
-returns-in_err-reserve-clause-went g c = λ desk. went_none c.requires (keeps_same c.reserve.ensures.client c.reserve.ensures.current c.reserve.ensures.phase c.reserve.ensures.stage) c.reserve.ensures.reached
+returns-in_err-reserve-clause-went g c = λ desk. went_none c.requires.linked (keeps_same c.reserve.ensures.client c.reserve.ensures.current c.reserve.ensures.phase c.reserve.ensures.stage) c.reserve.ensures.reached
 
 pub returns-in_err-reserve-clause-server : goal.returns-in_err-reserve-clause-server
 returns-in_err-reserve-clause-server g c = keeps_server c.reserve.ensures.phase c.reserve.ensures.stage c.reserve.ensures.current
 
 pub returns-then-is_empty-clause-went : goal.returns-then-is_empty-clause-went
-returns-then-is_empty-clause-went g c = λ desk. went_same c.requires
+returns-then-is_empty-clause-went g c = λ desk. went_same c.requires.linked
 
 pub returns-then-is_empty-clause-server : goal.returns-then-is_empty-clause-server
 returns-then-is_empty-clause-server g c = λ ex. (ex, refl)
@@ -35,7 +35,7 @@ pub returns-in_err-reserve-clause-counted : goal.returns-in_err-reserve-clause-c
 returns-in_err-reserve-clause-counted g c = λ r h. counted_same c.reserve.ensures.client (keeps_server c.reserve.ensures.phase c.reserve.ensures.stage c.reserve.ensures.current) h
 
 pub write-requires-clause-given : goal.write-requires-clause-given
-write-requires-clause-given g c = server_given c.args.conn.now c.requires c.in-Some.ensures
+write-requires-clause-given g c = server_given c.args.conn.now c.requires.linked c.in-Some.ensures
 
 pub write-requires-clause-piece : goal.write-requires-clause-piece
 write-requires-clause-piece g c = let some : c.is_empty.result ≡ false = search rules in
@@ -50,15 +50,15 @@ back_took-requires-clause-some g c = subst (λ (l : List ℕ). c.in-Took.n ≤ l
 pub returns-in-Took-clause-went : goal.returns-in-Took-clause-went
 returns-in-Took-clause-went g c = λ desk. let w = rw c.back_pending-2.ensures at c.in-Took.ensures.seen.2 in
     let s = (serving_still c.args.conn.now c.reserve.new.self c.reserve.ensures.phase c.reserve.ensures.stage c.reserve.ensures.current c.in-Some.ensures) in
-    went_then (went_none c.requires (keeps_same c.reserve.ensures.client c.reserve.ensures.current c.reserve.ensures.phase c.reserve.ensures.stage) c.reserve.ensures.reached)
-    (went_server c.in-Some.link (took _) (linked_still c.requires (keeps_same c.reserve.ensures.client c.reserve.ensures.current c.reserve.ensures.phase c.reserve.ensures.stage)) s refl refl w c.in-Took.ensures.lately.only
+    went_then (went_none c.requires.linked (keeps_same c.reserve.ensures.client c.reserve.ensures.current c.reserve.ensures.phase c.reserve.ensures.stage) c.reserve.ensures.reached)
+    (went_server c.in-Some.link (took _) (linked_still c.requires.linked (keeps_same c.reserve.ensures.client c.reserve.ensures.current c.reserve.ensures.phase c.reserve.ensures.stage)) s refl refl w c.in-Took.ensures.lately.only
     (keeps_open s.0.phase c.back_took.ensures.client c.back_took.ensures.server c.back_took.ensures.number) c.back_took.ensures.reached)
 
 pub returns-in-Took-clause-server : goal.returns-in-Took-clause-server
 returns-in-Took-clause-server g c = server_then (keeps_server c.reserve.ensures.phase c.reserve.ensures.stage c.reserve.ensures.current) c.back_took.ensures.server
 
 pub returns-in-Took-clause-prompt : goal.returns-in-Took-clause-prompt
-returns-in-Took-clause-prompt g c = λ before. c.back_took.ensures.prompt (c.reserve.ensures.prompt before)
+returns-in-Took-clause-prompt g c = c.back_took.ensures.prompt (c.reserve.ensures.prompt c.requires.prompt)
 
 pub returns-in-Took-clause-counted : goal.returns-in-Took-clause-counted
 returns-in-Took-clause-counted g c = λ r h. counted_write c.in-Took.ensures.lately c.back_took.ensures.client c.back_took.ensures.server (counted_same c.reserve.ensures.client (keeps_server c.reserve.ensures.phase c.reserve.ensures.stage c.reserve.ensures.current) h)
@@ -85,9 +85,9 @@ back_failed-requires-clause-room g c = c.in_ok-reserve.ensures.room.notes
 
 pub returns-in_err-back_failed-in-Failed-clause-went : goal.returns-in_err-back_failed-in-Failed-clause-went
 returns-in_err-back_failed-in-Failed-clause-went g c = λ desk. let s = (serving_still c.args.conn.now c.reserve.new.self c.reserve.ensures.phase c.reserve.ensures.stage c.reserve.ensures.current c.in-Some.ensures) in
-    went_then (went_none c.requires (keeps_same c.reserve.ensures.client c.reserve.ensures.current c.reserve.ensures.phase c.reserve.ensures.stage) c.reserve.ensures.reached)
-    (went_server_fault c.in-Some.link (linked_still c.requires (keeps_same c.reserve.ensures.client c.reserve.ensures.current c.reserve.ensures.phase c.reserve.ensures.stage)) s c.in-Failed.ensures.seen c.in-Failed.ensures.lately.only
-    (keeps_open s.0.phase c.back_failed.ensures.client c.back_failed.ensures.server c.back_failed.ensures.number) c.back_failed.ensures.reached)
+    went_then (went_none c.requires.linked (keeps_same c.reserve.ensures.client c.reserve.ensures.current c.reserve.ensures.phase c.reserve.ensures.stage) c.reserve.ensures.reached)
+    (went_server_fault c.in-Some.link (linked_still c.requires.linked (keeps_same c.reserve.ensures.client c.reserve.ensures.current c.reserve.ensures.phase c.reserve.ensures.stage)) s c.in-Failed.ensures.seen c.in-Failed.ensures.lately.only
+    (keeps_open s.0.phase c.back_failed.ensures.client c.back_failed.ensures.server c.back_failed.ensures.number) (c.back_failed.ensures.reached (c.reserve.ensures.prompt c.requires.prompt)))
 
 pub returns-in_err-back_failed-in-Failed-clause-server : goal.returns-in_err-back_failed-in-Failed-clause-server
 returns-in_err-back_failed-in-Failed-clause-server g c = server_then (keeps_server c.reserve.ensures.phase c.reserve.ensures.stage c.reserve.ensures.current) c.back_failed.ensures.server
@@ -97,9 +97,9 @@ returns-in_err-back_failed-in-Failed-clause-counted g c = λ r h. counted_write 
 
 pub returns-in_ok-back_failed-in-Failed-clause-went : goal.returns-in_ok-back_failed-in-Failed-clause-went
 returns-in_ok-back_failed-in-Failed-clause-went g c = λ desk. let s = (serving_still c.args.conn.now c.reserve.new.self c.reserve.ensures.phase c.reserve.ensures.stage c.reserve.ensures.current c.in-Some.ensures) in
-    went_then (went_none c.requires (keeps_same c.reserve.ensures.client c.reserve.ensures.current c.reserve.ensures.phase c.reserve.ensures.stage) c.reserve.ensures.reached)
-    (went_server_fault c.in-Some.link (linked_still c.requires (keeps_same c.reserve.ensures.client c.reserve.ensures.current c.reserve.ensures.phase c.reserve.ensures.stage)) s c.in-Failed.ensures.seen c.in-Failed.ensures.lately.only
-    (keeps_open s.0.phase c.back_failed.ensures.client c.back_failed.ensures.server c.back_failed.ensures.number) c.back_failed.ensures.reached)
+    went_then (went_none c.requires.linked (keeps_same c.reserve.ensures.client c.reserve.ensures.current c.reserve.ensures.phase c.reserve.ensures.stage) c.reserve.ensures.reached)
+    (went_server_fault c.in-Some.link (linked_still c.requires.linked (keeps_same c.reserve.ensures.client c.reserve.ensures.current c.reserve.ensures.phase c.reserve.ensures.stage)) s c.in-Failed.ensures.seen c.in-Failed.ensures.lately.only
+    (keeps_open s.0.phase c.back_failed.ensures.client c.back_failed.ensures.server c.back_failed.ensures.number) (c.back_failed.ensures.reached (c.reserve.ensures.prompt c.requires.prompt)))
 
 pub returns-in_ok-back_failed-in-Failed-clause-server : goal.returns-in_ok-back_failed-in-Failed-clause-server
 returns-in_ok-back_failed-in-Failed-clause-server g c = server_then (keeps_server c.reserve.ensures.phase c.reserve.ensures.stage c.reserve.ensures.current) c.back_failed.ensures.server
@@ -109,8 +109,8 @@ returns-in_ok-back_failed-in-Failed-clause-counted g c = λ r h. counted_write c
 
 pub returns-in-NotYet-clause-went : goal.returns-in-NotYet-clause-went
 returns-in-NotYet-clause-went g c = λ desk. let s = (serving_still c.args.conn.now c.reserve.new.self c.reserve.ensures.phase c.reserve.ensures.stage c.reserve.ensures.current c.in-Some.ensures) in
-    went_then (went_none c.requires (keeps_same c.reserve.ensures.client c.reserve.ensures.current c.reserve.ensures.phase c.reserve.ensures.stage) c.reserve.ensures.reached)
-    (went_quiet c.in-Some.link (linked_still c.requires (keeps_same c.reserve.ensures.client c.reserve.ensures.current c.reserve.ensures.phase c.reserve.ensures.stage)) (of_server s.0 s.1) c.in-NotYet.ensures.seen c.in-NotYet.ensures.lately.only (keeps_all _) (λ steps r. r))
+    went_then (went_none c.requires.linked (keeps_same c.reserve.ensures.client c.reserve.ensures.current c.reserve.ensures.phase c.reserve.ensures.stage) c.reserve.ensures.reached)
+    (went_quiet c.in-Some.link (linked_still c.requires.linked (keeps_same c.reserve.ensures.client c.reserve.ensures.current c.reserve.ensures.phase c.reserve.ensures.stage)) (of_server s.0 s.1) c.in-NotYet.ensures.seen c.in-NotYet.ensures.lately.only (keeps_all _) (λ steps r. r))
 
 pub returns-in-NotYet-clause-server : goal.returns-in-NotYet-clause-server
 returns-in-NotYet-clause-server g c = keeps_server c.reserve.ensures.phase c.reserve.ensures.stage c.reserve.ensures.current

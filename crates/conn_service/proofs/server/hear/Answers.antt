@@ -118,7 +118,7 @@ pub returns-in_err-back_failed-in-Failed-clause-went : goal.returns-in_err-back_
 returns-in_err-back_failed-in-Failed-clause-went g c = λ desk. let s = (serving_still c.args.conn.now c.reserve.new.self c.reserve.ensures.phase c.reserve.ensures.stage c.reserve.ensures.current c.in-Some.ensures) in
     went_then (went_none c.requires.linked (keeps_same c.reserve.ensures.client c.reserve.ensures.current c.reserve.ensures.phase c.reserve.ensures.stage) c.reserve.ensures.reached)
     (went_server_fault c.in-Some.link (linked_still c.requires.linked (keeps_same c.reserve.ensures.client c.reserve.ensures.current c.reserve.ensures.phase c.reserve.ensures.stage)) s c.in-Failed.ensures.seen c.in-Failed.ensures.lately.only
-    (keeps_open s.0.phase c.back_failed.ensures.client c.back_failed.ensures.server c.back_failed.ensures.number) c.back_failed.ensures.reached)
+    (keeps_open s.0.phase c.back_failed.ensures.client c.back_failed.ensures.server c.back_failed.ensures.number) (c.back_failed.ensures.reached (c.reserve.ensures.prompt c.requires.prompt)))
 
 pub returns-in_err-back_failed-in-Failed-clause-server : goal.returns-in_err-back_failed-in-Failed-clause-server
 returns-in_err-back_failed-in-Failed-clause-server g c = server_then (keeps_server c.reserve.ensures.phase c.reserve.ensures.stage c.reserve.ensures.current) c.back_failed.ensures.server
@@ -130,7 +130,7 @@ pub returns-in_ok-back_failed-in-Failed-clause-went : goal.returns-in_ok-back_fa
 returns-in_ok-back_failed-in-Failed-clause-went g c = λ desk. let s = (serving_still c.args.conn.now c.reserve.new.self c.reserve.ensures.phase c.reserve.ensures.stage c.reserve.ensures.current c.in-Some.ensures) in
     went_then (went_none c.requires.linked (keeps_same c.reserve.ensures.client c.reserve.ensures.current c.reserve.ensures.phase c.reserve.ensures.stage) c.reserve.ensures.reached)
     (went_server_fault c.in-Some.link (linked_still c.requires.linked (keeps_same c.reserve.ensures.client c.reserve.ensures.current c.reserve.ensures.phase c.reserve.ensures.stage)) s c.in-Failed.ensures.seen c.in-Failed.ensures.lately.only
-    (keeps_open s.0.phase c.back_failed.ensures.client c.back_failed.ensures.server c.back_failed.ensures.number) c.back_failed.ensures.reached)
+    (keeps_open s.0.phase c.back_failed.ensures.client c.back_failed.ensures.server c.back_failed.ensures.number) (c.back_failed.ensures.reached (c.reserve.ensures.prompt c.requires.prompt)))
 
 pub returns-in_ok-back_failed-in-Failed-clause-server : goal.returns-in_ok-back_failed-in-Failed-clause-server
 returns-in_ok-back_failed-in-Failed-clause-server g c = server_then (keeps_server c.reserve.ensures.phase c.reserve.ensures.stage c.reserve.ensures.current) c.back_failed.ensures.server

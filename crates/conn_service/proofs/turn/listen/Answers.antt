@@ -26,7 +26,7 @@ pub returns-clause-counted : goal.returns-clause-counted
 returns-clause-counted g c = c.answer.ensures.counted _ c.receive.ensures.counted
 
 pub returns-clause-prompt : goal.returns-clause-prompt
-returns-clause-prompt g c = c.in_ok-answered.ensures.prompt (c.in_ok-received.ensures.prompt c.requires.prompt)
+returns-clause-prompt g c = c.in_ok-answered.ensures.prompt c.in_ok-received.ensures.prompt
 
 pub returns-clause-calm : goal.returns-clause-calm
 returns-clause-calm g c = λ e opened.
@@ -35,4 +35,4 @@ returns-clause-calm g c = λ e opened.
     let s = c.in_ok-received.ensures.still none.0 (sym v.0.same.phase ∙ opened) in
     let away : IsExchanging c.receive.new.conn → ⊥ = λ ex. let f : stage.Head ≡ stage.Exchange = sym (s.0.same.stage ∙ c.requires.stage) ∙ ex.stage in cc in
     rests_from (subst IsStanding (sym c.requires.stage) tt) s.0 s.1 (stays_work _ (work_same _)) (λ ex. absurd (away ex)) (stays_work _ (work_same _)) (λ ex. absurd (away ex)) v.0 v.1
-    (c.in_ok-answered.ensures.prompt (c.in_ok-received.ensures.prompt c.requires.prompt)) opened
+    (c.in_ok-answered.ensures.prompt c.in_ok-received.ensures.prompt) opened

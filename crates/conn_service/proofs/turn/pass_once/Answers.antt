@@ -6,8 +6,8 @@ use Rattle.conn_service.proofs.turn.pass_once.Goals as goal
 pub returns-in_err-received-clause-went : goal.returns-in_err-received-clause-went
 returns-in_err-received-clause-went g c = c.receive.ensures.went
 
-pub ask-requires : goal.ask-requires
-ask-requires g c = (c.receive.ensures.went no_desk).conn.linked
+pub ask-requires-clause-linked : goal.ask-requires-clause-linked
+ask-requires-clause-linked g c = (c.receive.ensures.went no_desk).conn.linked
 
 pub returns-in_err-asked-clause-went : goal.returns-in_err-asked-clause-went
 returns-in_err-asked-clause-went g c = λ desk. went_then (c.receive.ensures.went desk) (c.ask.ensures.went desk)
@@ -40,7 +40,7 @@ pub returns-clause-counted : goal.returns-clause-counted
 returns-clause-counted g c = c.answer.ensures.counted _ c.hear.ensures.counted
 
 pub returns-clause-prompt : goal.returns-clause-prompt
-returns-clause-prompt g c = c.in_ok-answered.ensures.prompt (c.in_ok-heard.ensures.prompt (c.in_ok-asked.ensures.prompt (c.in_ok-received.ensures.prompt c.requires.prompt)))
+returns-clause-prompt g c = c.in_ok-answered.ensures.prompt c.in_ok-heard.ensures.prompt
 
 pub returns-clause-calm : goal.returns-clause-calm
 returns-clause-calm g c = λ e opened.
@@ -50,4 +50,4 @@ returns-clause-calm g c = λ e opened.
     let t = c.in_ok-asked.ensures.still none.1 in
     let s = c.in_ok-received.ensures.still none.0 (sym t.0.same.phase ∙ sym u.0.same.phase ∙ sym v.0.same.phase ∙ opened) in
     rests_from c.requires.stage s.0 s.1 t.0 t.1 u.0 u.1 v.0 v.1
-    (c.in_ok-answered.ensures.prompt (c.in_ok-heard.ensures.prompt (c.in_ok-asked.ensures.prompt (c.in_ok-received.ensures.prompt c.requires.prompt)))) opened
+    (c.in_ok-answered.ensures.prompt c.in_ok-heard.ensures.prompt) opened

@@ -1,6 +1,6 @@
 use Rattle.std.proofs.Common.{refl, ap, ◌∙◌, ◌++◌, ℕ, List}
 use Rattle.std.specs.Prelude.{is_some}
-use Rattle.conn_machine.proofs.Opens.{opened_at, reached_open}
+use Rattle.conn_machine.proofs.Opens.{opened_at, reached_open, reached_broken}
 use Rattle.conn_machine.proofs.Walkings.{opened_refusal}
 use Rattle.conn_machine.proofs.conn.Conn.answer_spent.Goals as goal
 
@@ -12,3 +12,6 @@ returns-clause-reached c = λ steps r.
     c.requires.node
     (c.is_some-close.ensures ∙ ap is_some c.end_after.ensures.end) c.in_ok-own_text.ensures.text.1
     (opened_at c.requires.waits r))
+
+pub returns-in_err-own_text-clause-reached : goal.returns-in_err-own_text-clause-reached
+returns-in_err-own_text-clause-reached c = λ steps r. reached_broken _ refl (opened_at c.requires.waits r)

@@ -1,6 +1,6 @@
 use Rattle.std.proofs.Common.{refl}
 use Rattle.conn_machine.specs.declared.heads.Found.TheVariants as found
-use Rattle.conn_machine.proofs.Opens.{opened_at, reached_open}
+use Rattle.conn_machine.proofs.Opens.{opened_at, reached_open, reached_broken}
 use Rattle.conn_machine.proofs.Starts.{reached_client, opened_found, found_at}
 use Rattle.conn_machine.proofs.Prompts.{prompt_head, part_of}
 use Rattle.conn_machine.proofs.conn.Conn.find_head.Goals as goal
@@ -21,3 +21,6 @@ pub returns-else-self-clause-prompt : goal.returns-else-self-clause-prompt
 returns-else-self-clause-prompt c =
     prompt_head c.requires.stage c.if-self.false (part_of c.args.self.now.client.peer c.args.self.now.input.items
     (found_at c.args.self.now.client.peer c.front.result.now c.as_slice.result.now c.args.self.now.input.items c.in_ok-found.found found.Part c.front.ensures.front c.as_slice.ensures.value c.in-Part.is c.in_ok-found.ensures))
+
+pub returns-in_err-found-clause-reached : goal.returns-in_err-found-clause-reached
+returns-in_err-found-clause-reached c = λ steps r. reached_broken _ refl (opened_at c.requires r)

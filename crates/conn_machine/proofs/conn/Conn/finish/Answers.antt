@@ -35,4 +35,4 @@ returns-else-self-clause-reached c = λ steps r. reached_on {c = c.args.self.now
   unpinned = refl;
   none = c.clear.ensures.items;
   notes = c.push_in_room.ensures ∙ ap (λ (n : Note). c.args.self.now.notes.items ++ n ∷ []) (c.request_note-note.ensures ∙ note_same c.args.self.now.client.link c.args.self.now.current c.replace-looks.result c.args.self.now.looks c.replace-picks.result c.args.self.now.picks c.replace-backs.result c.args.self.now.backs c.replace-looks.ensures.value c.replace-picks.ensures.value c.replace-backs.ensures.value);
-}) c.requires.sent (sym c.end_after-end.ensures.end ∙ c.in-None.is) (opened_at c.requires.waits r)
+}) c.requires.sent (sym c.end_after-end.ensures.end ∙ c.in-None.is) c.if-self.false (opened_at c.requires.waits r)

@@ -8,4 +8,4 @@ pub returns-in-Some-clause-reached : goal.returns-in-Some-clause-reached
 returns-in-Some-clause-reached c = λ steps r.
     reached_at _ c.requires.phase c.requires.stage (opened_back_end c.in-Some.back c.end.new.self
     (record { asked = refl; size = refl; issue = refl; pinned = refl; index = refl; number = refl }) refl refl refl refl refl c.in-Some.is
-    (ap (λ (b : BackView). b.reply) c.end.ensures.value) c.end.ensures.reached (opened_at c.requires r))
+    (ap (λ (b : BackView). b.reply) c.end.ensures.value) (ap (λ (b : BackView). b.state) c.end.ensures.value) c.end.ensures.reached (opened_at c.requires r))

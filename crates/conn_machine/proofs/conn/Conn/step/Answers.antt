@@ -1,5 +1,5 @@
 use Rattle.conn_machine.specs.declared.event.ConnEvent.TheVariants as event
-use Rattle.conn_machine.proofs.Events.{event_told, event_server, event_number, server_told}
+use Rattle.conn_machine.proofs.Events.{event_told, event_server, event_number, server_told, dial_told}
 use Rattle.conn_machine.proofs.conn.Conn.step.Goals as goal
 
 pub returns-in-Bytes-clause-client : goal.returns-in-Bytes-clause-client
@@ -18,7 +18,7 @@ pub returns-in-Bytes-clause-server : goal.returns-in-Bytes-clause-server
 returns-in-Bytes-clause-server c = event_server c.args.self.now c.bytes.new.self (event.Bytes c.in-Bytes.piece) c.in-Bytes.is c.bytes.ensures.server
 
 pub returns-in-Bytes-clause-reached : goal.returns-in-Bytes-clause-reached
-returns-in-Bytes-clause-reached c = λ steps f r. event_told c.args.self.now c.bytes.new.self steps (event.Bytes c.in-Bytes.piece) c.in-Bytes.is (c.bytes.ensures.reached steps r)
+returns-in-Bytes-clause-reached c = λ prompt steps f r. event_told c.args.self.now c.bytes.new.self steps (event.Bytes c.in-Bytes.piece) c.in-Bytes.is (c.bytes.ensures.reached steps r)
 
 pub returns-in-End-clause-client : goal.returns-in-End-clause-client
 returns-in-End-clause-client c = c.end.ensures.client
@@ -36,7 +36,7 @@ pub returns-in-End-clause-server : goal.returns-in-End-clause-server
 returns-in-End-clause-server c = event_server c.args.self.now c.end.new.self event.End c.in-End.is c.end.ensures.server
 
 pub returns-in-End-clause-reached : goal.returns-in-End-clause-reached
-returns-in-End-clause-reached c = λ steps f r. event_told c.args.self.now c.end.new.self steps event.End c.in-End.is (c.end.ensures.reached steps r)
+returns-in-End-clause-reached c = λ prompt steps f r. event_told c.args.self.now c.end.new.self steps event.End c.in-End.is (c.end.ensures.reached prompt steps r)
 
 pub returns-in-Failed-clause-client : goal.returns-in-Failed-clause-client
 returns-in-Failed-clause-client c = c.fail.ensures.client
@@ -45,7 +45,7 @@ pub returns-in-Failed-clause-number : goal.returns-in-Failed-clause-number
 returns-in-Failed-clause-number c = event_number c.args.self.now.current.number event.Failed c.in-Failed.is c.fail.ensures.number
 
 pub returns-in-Failed-clause-reached : goal.returns-in-Failed-clause-reached
-returns-in-Failed-clause-reached c = λ steps f r. event_told c.args.self.now c.fail.new.self steps event.Failed c.in-Failed.is (c.fail.ensures.reached steps r)
+returns-in-Failed-clause-reached c = λ prompt steps f r. event_told c.args.self.now c.fail.new.self steps event.Failed c.in-Failed.is (c.fail.ensures.reached steps r)
 
 pub returns-in-Pinned-clause-client : goal.returns-in-Pinned-clause-client
 returns-in-Pinned-clause-client c = c.pin.ensures.client
@@ -63,7 +63,7 @@ pub returns-in-Pinned-clause-server : goal.returns-in-Pinned-clause-server
 returns-in-Pinned-clause-server c = event_server c.args.self.now c.pin.new.self (event.Pinned c.in-Pinned.issue) c.in-Pinned.is c.pin.ensures.server
 
 pub returns-in-Pinned-clause-reached : goal.returns-in-Pinned-clause-reached
-returns-in-Pinned-clause-reached c = λ steps f r. event_told c.args.self.now c.pin.new.self steps (event.Pinned c.in-Pinned.issue) c.in-Pinned.is (c.pin.ensures.reached steps r)
+returns-in-Pinned-clause-reached c = λ prompt steps f r. event_told c.args.self.now c.pin.new.self steps (event.Pinned c.in-Pinned.issue) c.in-Pinned.is (c.pin.ensures.reached steps r)
 
 pub returns-in-Looked-clause-client : goal.returns-in-Looked-clause-client
 returns-in-Looked-clause-client c = c.looked.ensures.client
@@ -81,7 +81,7 @@ pub returns-in-Looked-clause-server : goal.returns-in-Looked-clause-server
 returns-in-Looked-clause-server c = event_server c.args.self.now c.looked.new.self (event.Looked c.in-Looked.look) c.in-Looked.is c.looked.ensures.server
 
 pub returns-in-Looked-clause-reached : goal.returns-in-Looked-clause-reached
-returns-in-Looked-clause-reached c = λ steps f r. event_told c.args.self.now c.looked.new.self steps (event.Looked c.in-Looked.look) c.in-Looked.is (c.looked.ensures.reached steps r)
+returns-in-Looked-clause-reached c = λ prompt steps f r. event_told c.args.self.now c.looked.new.self steps (event.Looked c.in-Looked.look) c.in-Looked.is (c.looked.ensures.reached steps r)
 
 pub returns-in-Drew-clause-client : goal.returns-in-Drew-clause-client
 returns-in-Drew-clause-client c = c.drew.ensures.client
@@ -90,7 +90,7 @@ pub returns-in-Drew-clause-number : goal.returns-in-Drew-clause-number
 returns-in-Drew-clause-number c = event_number c.args.self.now.current.number (event.Drew c.in-Drew.pick) c.in-Drew.is c.drew.ensures.number
 
 pub returns-in-Drew-clause-reached : goal.returns-in-Drew-clause-reached
-returns-in-Drew-clause-reached c = λ steps f r. event_told c.args.self.now c.drew.new.self steps (event.Drew c.in-Drew.pick) c.in-Drew.is (c.drew.ensures.reached steps r)
+returns-in-Drew-clause-reached c = λ prompt steps f r. event_told c.args.self.now c.drew.new.self steps (event.Drew c.in-Drew.pick) c.in-Drew.is (c.drew.ensures.reached steps r)
 
 pub returns-in-Spent-clause-client : goal.returns-in-Spent-clause-client
 returns-in-Spent-clause-client c = c.spent.ensures.client
@@ -108,7 +108,7 @@ pub returns-in-Spent-clause-server : goal.returns-in-Spent-clause-server
 returns-in-Spent-clause-server c = event_server c.args.self.now c.spent.new.self (event.Spent c.in-Spent.node) c.in-Spent.is c.spent.ensures.server
 
 pub returns-in-Spent-clause-reached : goal.returns-in-Spent-clause-reached
-returns-in-Spent-clause-reached c = λ steps f r. event_told c.args.self.now c.spent.new.self steps (event.Spent c.in-Spent.node) c.in-Spent.is (c.spent.ensures.reached steps r)
+returns-in-Spent-clause-reached c = λ prompt steps f r. event_told c.args.self.now c.spent.new.self steps (event.Spent c.in-Spent.node) c.in-Spent.is (c.spent.ensures.reached steps r)
 
 pub returns-in-Dialled-clause-client : goal.returns-in-Dialled-clause-client
 returns-in-Dialled-clause-client c = c.dialled.ensures.client
@@ -124,6 +124,10 @@ returns-in-Dialled-clause-prompt c = λ _. c.dialled.ensures.prompt
 
 pub returns-in-Dialled-clause-server : goal.returns-in-Dialled-clause-server
 returns-in-Dialled-clause-server c = event_server c.args.self.now c.dialled.new.self (event.Dialled c.in-Dialled.link) c.in-Dialled.is c.dialled.ensures.server
+
+pub returns-in-Dialled-clause-reached : goal.returns-in-Dialled-clause-reached
+returns-in-Dialled-clause-reached c = λ prompt steps f r.
+    dial_told c.args.self.now c.dialled.new.self steps c.in-Dialled.link c.in-Dialled.is c.requires.enabled f r (λ a is new. c.dialled.ensures.reached steps a is new r)
 
 pub returns-in-Back-clause-client : goal.returns-in-Back-clause-client
 returns-in-Back-clause-client c = c.back_step.ensures.client
@@ -141,7 +145,7 @@ pub returns-in-Back-clause-server : goal.returns-in-Back-clause-server
 returns-in-Back-clause-server c = event_server c.args.self.now c.back_step.new.self (event.Back c.in-Back.link c.in-Back.event) c.in-Back.is c.back_step.ensures.server
 
 pub returns-in-Back-clause-reached : goal.returns-in-Back-clause-reached
-returns-in-Back-clause-reached c = λ steps f r. server_told c.args.self.now c.back_step.new.self steps c.in-Back.link c.in-Back.event c.in-Back.is c.requires.enabled (c.back_step.ensures.reached steps r)
+returns-in-Back-clause-reached c = λ prompt steps f r. server_told c.args.self.now c.back_step.new.self steps c.in-Back.link c.in-Back.event c.in-Back.is c.requires.enabled (c.back_step.ensures.reached prompt steps r)
 
 pub returns-in-Took-clause-client : goal.returns-in-Took-clause-client
 returns-in-Took-clause-client c = c.took.ensures.client
@@ -159,7 +163,7 @@ pub returns-in-Took-clause-server : goal.returns-in-Took-clause-server
 returns-in-Took-clause-server c = event_server c.args.self.now c.took.new.self (event.Took c.in-Took.n) c.in-Took.is c.took.ensures.server
 
 pub returns-in-Took-clause-reached : goal.returns-in-Took-clause-reached
-returns-in-Took-clause-reached c = λ steps f r. event_told c.args.self.now c.took.new.self steps (event.Took c.in-Took.n) c.in-Took.is (c.took.ensures.reached steps r)
+returns-in-Took-clause-reached c = λ prompt steps f r. event_told c.args.self.now c.took.new.self steps (event.Took c.in-Took.n) c.in-Took.is (c.took.ensures.reached steps r)
 
 pub returns-in-Stop-clause-client : goal.returns-in-Stop-clause-client
 returns-in-Stop-clause-client c = c.stop.ensures.client
@@ -168,4 +172,4 @@ pub returns-in-Stop-clause-number : goal.returns-in-Stop-clause-number
 returns-in-Stop-clause-number c = event_number c.args.self.now.current.number event.Stop c.in-Stop.is c.stop.ensures.number
 
 pub returns-in-Stop-clause-reached : goal.returns-in-Stop-clause-reached
-returns-in-Stop-clause-reached c = λ steps f r. event_told c.args.self.now c.stop.new.self steps event.Stop c.in-Stop.is (c.stop.ensures.reached steps r)
+returns-in-Stop-clause-reached c = λ prompt steps f r. event_told c.args.self.now c.stop.new.self steps event.Stop c.in-Stop.is (c.stop.ensures.reached steps r)

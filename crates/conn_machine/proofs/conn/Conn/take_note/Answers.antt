@@ -24,7 +24,7 @@ returns-then-self-clause-reached c = λ steps r.
     reached_open_told c.take_open.new.self c.in-Over.cause c.take_open.result c.in-Over.is (c.take_open.ensures.phase ∙ c.in-Over.is)
     (no_items c.args.self.now.notes _ c.is_empty.ensures c.if-not-is_empty.false) c.if-self.true c.take_open.ensures.note
     c.take_open.ensures.client (ap (λ (m : Current). m.pinned) c.take_open.ensures.current) (ap (λ (m : Current). m.number) c.take_open.ensures.current)
-    c.take_open.ensures.notes c.take_open.ensures.over r
+    c.take_open.ensures.notes r
 
 pub returns-else-self-clause-reached : goal.returns-else-self-clause-reached
 returns-else-self-clause-reached c = λ steps r.
