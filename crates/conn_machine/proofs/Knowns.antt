@@ -83,15 +83,15 @@ untaken_at {steps} {k} {m} {trail} {input} {pending} {waiting} {over} at goes so
     by Spent is h = subst (IfLast (λ (u : Turn). IsReplyKnown u → IsUntaken (taken (history k.link steps)) o.done u)) (sym h.last_is) (λ d. absurd (unknown_none h.turn h.holds.open_at.undecided.unfinished h.holds.open_at.undecided.stage.6 d))
     by Dial is h = subst (IfLast (λ (u : Turn). IsReplyKnown u → IsUntaken (taken (history k.link steps)) o.done u)) (sym h.last_is) (λ d. absurd (unknown_none h.turn h.holds.open_at.undecided.unfinished h.holds.open_at.undecided.stage.6 d))
     by Dialled is h = subst (IfLast (λ (u : Turn). IsReplyKnown u → IsUntaken (taken (history k.link steps)) o.done u)) (sym h.last_is) (λ d. absurd (
-      let x : IsDialling k.entry k.peer m pending o.done h.turn = h.holds in
-      unknown_by h.turn x.link x.aimed.open_at.undecided.unfinished x.is_sent.back (λ r asked w. nothing_whole r.method (subst (HasWholeReply r.method) x.ungiven w)) d
-    ))
+        let x : IsDialling k.entry k.peer m pending o.done h.turn = h.holds in
+        unknown_by h.turn x.link x.aimed.open_at.undecided.unfinished x.is_sent.back (λ r asked w. nothing_whole r.method (subst (HasWholeReply r.method) x.ungiven w)) d
+        ))
     by Exchange is h = subst (IfLast (λ (u : Turn). IsReplyKnown u → IsUntaken (taken (history k.link steps)) o.done u)) (sym h.last_is) (λ d. absurd (
-      let x : IsExchanging k.entry k.peer m pending o.done h.turn = h.holds in
-      let open_back : IsOpenState x.back.state = subst IsOpenBack x.back_is (goes is) in
-      unknown_by h.turn x.link (passing_begun x.back.reply x.r h.turn x.content pending x.passing) x.sent.back
-      (λ r asked w. going x.back.reply x.back.state _ x.r.method _ (given x.link.events) x.content x.ended x.failed x.back refl refl open_back x.exchanged
-      (let request : r ≡ x.r = (let s : asks r ≡ asks x.r = sym asked ∙ x.sent.won.asked in cc) in subst (λ (q : HttpRequest). HasWholeReply q.method (given x.link.events)) request w)) d
-    ))
+        let x : IsExchanging k.entry k.peer m pending o.done h.turn = h.holds in
+        let open_back : IsOpenState x.back.state = subst IsOpenBack x.back_is (goes is) in
+        unknown_by h.turn x.link (passing_begun x.back.reply x.r h.turn x.content pending x.passing) x.sent.back
+        (λ r asked w. going x.back.reply x.back.state _ x.r.method _ (given x.link.events) x.content x.ended x.failed x.back refl refl open_back x.exchanged
+        (let request : r ≡ x.r = (let s : asks r ≡ asks x.r = sym asked ∙ x.sent.won.asked in cc) in subst (λ (q : HttpRequest). HasWholeReply q.method (given x.link.events)) request w)) d
+        ))
     by Reply is h = subst (IfLast (λ (u : Turn). IsReplyKnown u → IsUntaken (taken (history k.link steps)) o.done u)) (sym h.last_is) (λ d.
         some_left (taken (history k.link steps)) pending o.done h.turn (o.holds.spells ∙ ap (of_all reply_of o.done) h.last_is) (some is))

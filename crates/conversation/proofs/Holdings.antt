@@ -281,7 +281,6 @@ holds_pinned {t} {link} {entry} {peer} {done} {rest} {left} {number} {next} item
   closes = λ c. ended_last (r.closes c) (λ d. absurd (fresh_unknown next item ask p d));
 }
 
-
 -- the same of the last request, but for its answer
 pub record SameTurn (u v : Turn) : Type 0 where
   pub index : v.index ≡ u.index

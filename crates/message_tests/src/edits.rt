@@ -33,8 +33,20 @@ fn expect_set(
 fn sets(rt: &impl Abort, alloc: Global) -> Result<(), Fail> {
     expect_set(rt, alloc, "a", "longer", "a: longer\r\nbb: \r\nC: four\r\n")?;
     expect_set(rt, alloc, "A", "", "A: \r\nbb: \r\nC: four\r\n")?;
-    expect_set(rt, alloc, "BB", "x", "A: 1\r\nBB: x\r\na: 3\r\nC: four\r\na: 5\r\n")?;
-    expect_set(rt, alloc, "c", "4", "A: 1\r\nbb: \r\na: 3\r\nc: 4\r\na: 5\r\n")?;
+    expect_set(
+        rt,
+        alloc,
+        "BB",
+        "x",
+        "A: 1\r\nBB: x\r\na: 3\r\nC: four\r\na: 5\r\n",
+    )?;
+    expect_set(
+        rt,
+        alloc,
+        "c",
+        "4",
+        "A: 1\r\nbb: \r\na: 3\r\nc: 4\r\na: 5\r\n",
+    )?;
     expect_set(
         rt,
         alloc,
@@ -55,7 +67,12 @@ fn expect_removed(rt: &impl Abort, alloc: Global, name: &str, wanted: &str) -> R
 fn removals(rt: &impl Abort, alloc: Global) -> Result<(), Fail> {
     expect_removed(rt, alloc, "a", "bb: \r\nC: four\r\n")?;
     expect_removed(rt, alloc, "Bb", "A: 1\r\na: 3\r\nC: four\r\na: 5\r\n")?;
-    expect_removed(rt, alloc, "b", "A: 1\r\nbb: \r\na: 3\r\nC: four\r\na: 5\r\n")
+    expect_removed(
+        rt,
+        alloc,
+        "b",
+        "A: 1\r\nbb: \r\na: 3\r\nC: four\r\na: 5\r\n",
+    )
 }
 
 // One after another on the same lines, down to none and up again.
@@ -65,7 +82,10 @@ fn turns(rt: &impl Abort, alloc: Global) -> Result<(), Fail> {
     lines.set(b"X-Replaced-Path", b"/app")?;
     lines.set(b"c", b"")?;
     lines.push(b"bb", b"last")?;
-    assert_eq!(rt; lines.text(), b"bb: \r\nc: \r\nX-Replaced-Path: /app\r\nbb: last\r\n".as_slice());
+    assert_eq!(rt;
+        lines.text(),
+        b"bb: \r\nc: \r\nX-Replaced-Path: /app\r\nbb: last\r\n".as_slice()
+    );
     assert_eq!(rt; lines.first(b"BB"), Some(b"".as_slice()));
     lines.remove(b"bb");
     lines.remove(b"x-replaced-path");
