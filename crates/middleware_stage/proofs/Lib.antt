@@ -1,0 +1,4 @@
+pub mod Escapes
+pub mod Ranges
+pub mod Rewrites
+pub mod Urls
