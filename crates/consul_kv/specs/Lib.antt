@@ -1,0 +1,9 @@
+pub mod Elements
+pub mod Keys
+pub mod Leaves
+pub mod Pairs
+pub mod Sorted
+pub mod Rises
+pub mod Grown
+pub mod Reply
+pub mod Requests
