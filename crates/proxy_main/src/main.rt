@@ -21,6 +21,9 @@ use std::sync::Wait;
 /// The status where memory ran out before a command was called.
 const NO_MEMORY: u8 = 7;
 
+/// The status where a note was refused.
+const REFUSED: u8 = 10;
+
 /// The status where a listener can't be bound.
 const NOT_BOUND: u8 = 11;
 
@@ -121,6 +124,15 @@ fn worlds_of(
     }
 }
 
+// The status of `serve`, or where it would be 0 and a note was refused, that of a fault of the world: the notes of the ends
+// that a stop makes may be the first that are refused.
+fn status_of(status: u8, worlds: &[MioWorld<HostRuntime, StdSink<File>>]) -> u8 {
+    if status == 0 && worlds.iter().any(|world| world.has_refused()) {
+        return REFUSED;
+    }
+    status
+}
+
 // Serves over real sockets, and answers the status.
 fn run_serve(rt: HostRuntime, waits: &impl Wait, alloc: Global, plan: &ServePlan) -> u8 {
     match worlds_of(rt, alloc, plan) {
@@ -128,7 +140,8 @@ fn run_serve(rt: HostRuntime, waits: &impl Wait, alloc: Global, plan: &ServePlan
             let files = StdFiles::new(rt, alloc);
             let out = StdSink::new(io::writer(&rt));
             let shop = RegexShop::new(alloc);
-            serve(waits, alloc, plan, worlds, files, out, shop).status
+            let end = serve(waits, alloc, plan, worlds, files, out, shop);
+            status_of(end.status, end.worlds.as_slice())
         }
         Err(BindFault::Bind { .. }) => NOT_BOUND,
         Err(BindFault::Memory) => NO_MEMORY,
