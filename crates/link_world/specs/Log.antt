@@ -15,14 +15,21 @@ pub data LinkEvent : Type 0 where
   took : List ℕ → LinkEvent
   noted : Note → LinkEvent
 
+-- a moment is in milliseconds; a stamp is the clock's last answer before the event
 pub data Event : Type 0 where
-  waited : Event
-  -- the clock answered a greater value, in milliseconds
+  -- a wait until this moment, and one that failed
+  waited : ℕ → Event
+  wait_failed : ℕ → Event
+  -- the clock answered a greater value
   clock : ℕ → Event
-  on : ℕ → LinkEvent → Event
-  closed : ℕ → Event
-  -- a stop was asked for
-  stop : Event
+  -- this happened on a link, at this stamp
+  on : ℕ → ℕ → LinkEvent → Event
+  -- a call on a link failed, at this stamp
+  failed : ℕ → ℕ → Event
+  -- an open link was closed, at this stamp
+  closed : ℕ → ℕ → Event
+  -- whether a stop was asked for
+  asked : Bool → Event
 
 -- these if the test holds, else nothing
 abbrev pub only_if : {A : Type 0} → Bool → List A → List A
@@ -31,22 +38,39 @@ only_if false xs = []
 
 -- the event is of this link
 abbrev pub is_of : ℕ → Event → Bool
-is_of link waited = false
+is_of link (waited until) = false
+is_of link (wait_failed until) = false
 is_of link (clock now) = false
-is_of link (on l e) = link == l
-is_of link (closed l) = link == l
-is_of link stop = false
+is_of link (on l stamp e) = link == l
+is_of link (failed l stamp) = link == l
+is_of link (closed l stamp) = link == l
+is_of link (asked answer) = false
 
 abbrev pub happening : ℕ → Event → List LinkEvent
-happening link waited = []
+happening link (waited until) = []
+happening link (wait_failed until) = []
 happening link (clock now) = []
-happening link (on l e) = only_if (link == l) (e ∷ [])
-happening link (closed l) = []
-happening link stop = []
+happening link (on l stamp e) = only_if (link == l) (e ∷ [])
+happening link (failed l stamp) = []
+happening link (closed l stamp) = []
+happening link (asked answer) = []
 
 -- what happened on the link, in order
 abbrev pub history_of : ℕ → List Event → List LinkEvent
 history_of link log = flat_map (happening link) log
+
+abbrev pub failure : ℕ → Event → List (Unit {0})
+failure link (waited until) = []
+failure link (wait_failed until) = []
+failure link (clock now) = []
+failure link (on l stamp e) = []
+failure link (failed l stamp) = only_if (link == l) (tt ∷ [])
+failure link (closed l stamp) = []
+failure link (asked answer) = []
+
+-- the faults of the link, one for each
+abbrev pub failures_of : ℕ → List Event → List (Unit {0})
+failures_of link log = flat_map (failure link) log
 
 -- no event is of this link
 abbrev pub IsFresh : ℕ → List Event → Type 0

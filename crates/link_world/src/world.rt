@@ -57,7 +57,7 @@ pub trait World {
 
     /// Waits until something may be there to do, or until the clock is at `until`, in milliseconds.
     fn wait<R: Wait>(&mut self, rt: &R, until: u64) -> Result<(), WaitFailed>
-        ensures seen { WaitDid (seen self.old) result (seen self.new) }
+        ensures seen { WaitDid (seen self.old) until result (seen self.new) }
         ensures lately { WaitLately (seen self.old).is_open (lately self.old) result (lately self.new) };
 
     /// The clock, in milliseconds. It never falls.
