@@ -57,7 +57,7 @@ impl Back {
         })
     }
 
-    /// What of the request the link hasn't taken.
+    /// The part of the request that the link hasn't taken yet.
     pub fn pending(&self) -> &[u8]
         ensures { result.now ≡ self.now.pending }
     {

@@ -17,7 +17,7 @@ pub enum ConfigFault {
     Missing { path: Bytes },
     /// A value outside its range.
     Range { path: Bytes },
-    /// A declared name that is none.
+    /// A declared name with a character that names can't have.
     BadName { path: Bytes },
     /// A table with more routers, services or middlewares than may be.
     TooMany { path: Bytes },

@@ -11,7 +11,7 @@ pub struct RouterDef {
     pub service: Bytes,
     pub middlewares: List<Bytes>,
     pub priority: i64,
-    /// Whether a table `tls` stands there, of whatever content.
+    /// Whether it has a table `tls`, whatever is in it.
     pub tls: bool,
     /// Whether an option asks for what is not supported.
     pub unsupported: bool,

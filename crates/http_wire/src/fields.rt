@@ -121,7 +121,7 @@ pub(crate) struct Options<'a> {
 
 /// Whether the line goes on, among `lines` with these options: it is no matter of one connection alone (RFC 9110
 /// section 7.6.1).
-pub(crate) fn does_go_on(
+pub(crate) fn is_end_to_end(
     buf: &[u8],
     lines: &[HeaderSpan],
     options: &Options<'_>,

@@ -14,7 +14,7 @@ use px_base::{fold_equal, read_decimal};
 /// What is wrong with the fields that frame a body.
 #[derive(Clone, Copy, Debug, PartialEq, Eq)]
 pub enum FramingFault {
-    /// A `Content-Length` that is none, two that differ, or a last coding that isn't `chunked`.
+    /// A `Content-Length` that isn't a number, two that differ, or a last coding that isn't `chunked`.
     BadLength,
     /// `Transfer-Encoding` beside `Content-Length`, or in version 1.0.
     BothLengths,

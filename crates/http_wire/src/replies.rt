@@ -8,7 +8,7 @@ ghost use Rattle.head_view.specs.Replies.{IsHeadWithin};
 ghost use Rattle.http_wire.specs.Fields.{HoldOptions};
 ghost use Rattle.http_wire.specs.Replies.{is_interim, is_head, has_no_body, is_kept, reply_framing_of, IsReplyOf, IsReplyFault, HasNoFault, IfRefused};
 
-use crate::fields::{Options, does_go_on, is_named, options_of};
+use crate::fields::{Options, is_end_to_end, is_named, options_of};
 use crate::framing::{FramingFault, framing_of};
 use crate::lines::{FieldLines, room_of};
 use crate::message::Reply;
@@ -187,5 +187,5 @@ fn is_kept_line(
     requires one { IsHeaderWithin (length buf.now) line.now }
     ensures { result ≡ is_kept tells (lines_at buf.now lines.now) (header_bytes buf.now line.now) }
 {
-    does_go_on(buf, lines, options, line) && (tells || !is_named(buf, line, b"Content-Length"))
+    is_end_to_end(buf, lines, options, line) && (tells || !is_named(buf, line, b"Content-Length"))
 }

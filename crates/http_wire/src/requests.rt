@@ -14,7 +14,7 @@ ghost use Rattle.http_wire.specs.Targets.{path_of, query_of};
 ghost use Rattle.http_wire.specs.Requests.{hosts_of, first_or_empty, host_in, IsHosted, is_forwarded, is_replaced, goes_to_backend, told_fields, lines_for_backend, keeps, IsRequestOf, IsSound, IsHeadFault, TakesRequest};
 
 use crate::fields::{
-    Options, begins_with, does_go_on, first_named, has_none, is_named, is_option, options_of,
+    Options, begins_with, first_named, has_none, is_end_to_end, is_named, is_option, options_of,
 };
 use crate::framing::{FramingFault, framing_of};
 use crate::lines::{FieldLines, room_of};
@@ -114,7 +114,7 @@ fn taken(
 
 // What the fields and the target say, before a path is normalised.
 #[derive(Clone, Copy)]
-struct Sound<'a> {
+struct CheckedHead<'a> {
     host: &'a [u8],
     path: &'a [u8],
     query: Option<&'a [u8]>,
@@ -129,7 +129,7 @@ fn read_head<'a>(
     version: u8,
     method: &[u8],
     target: &'a [u8],
-) -> Result<Sound<'a>, HeadFault>
+) -> Result<CheckedHead<'a>, HeadFault>
     requires { AreWithin buf.now lines.now }
     ensures { let fields = lines_at buf.now lines.now in MatchResult result
         (λ s. IsSound method.now target.now version fields × (s.host.now ≡ host_in target.now fields)
@@ -147,7 +147,7 @@ fn read_head<'a>(
         Ok(_) if is_refused_target(method, target, host) => Err(HeadFault::BadTarget),
         Ok(framing) => {
             let (path, query) = path_and_query_in(target);
-            Ok(Sound {
+            Ok(CheckedHead {
                 host,
                 path,
                 query,
@@ -190,7 +190,7 @@ fn request_of(
     version: u8,
     method: &[u8],
     target: &[u8],
-    head: &Sound<'_>,
+    head: &CheckedHead<'_>,
     peer: Ip,
 ) -> Result<Request, RequestRefused>
     requires lines { AreWithin buf.now lines.now }
@@ -224,7 +224,7 @@ fn request_with(
     version: u8,
     method: &[u8],
     target: &[u8],
-    head: &Sound<'_>,
+    head: &CheckedHead<'_>,
     peer: Ip,
     path: Vec<u8>,
 ) -> Result<Request, Memory>
@@ -280,7 +280,7 @@ fn made_of(
 }
 
 // Whether the client's connection may go on.
-fn may_go_on(buf: &[u8], lines: &[HeaderSpan], version: u8, head: &Sound<'_>) -> bool
+fn may_go_on(buf: &[u8], lines: &[HeaderSpan], version: u8, head: &CheckedHead<'_>) -> bool
     requires { HoldOptions buf.now head.now.options.lines.now (option_map (λ o. o.now) head.now.options.only) lines.now }
     ensures { result ≡ keeps version (lines_at buf.now lines.now) }
 {
@@ -301,7 +301,7 @@ fn backend_lines(
     alloc: Global,
     buf: &[u8],
     lines: &[HeaderSpan],
-    head: &Sound<'_>,
+    head: &CheckedHead<'_>,
     peer: Ip,
 ) -> Result<FieldLines, Memory>
     requires lines { AreWithin buf.now lines.now }
@@ -311,7 +311,7 @@ fn backend_lines(
     let mut all = client_lines(alloc, buf, lines, &head.options)?;
     let mut address = Vec::with_capacity(alloc, 16)?;
     push_address(alloc, peer, &mut address)?;
-    push_told(&mut all, address.as_slice(), head.host)?;
+    push_forwarding_fields(&mut all, address.as_slice(), head.host)?;
     Ok(all)
 }
 
@@ -369,7 +369,7 @@ fn does_go_to_backend(
     requires one { IsHeaderWithin (length buf.now) line.now }
     ensures { result ≡ goes_to_backend (lines_at buf.now lines.now) (header_bytes buf.now line.now) }
 {
-    !is_replaced_line(buf, line) && does_go_on(buf, lines, options, line)
+    !is_replaced_line(buf, line) && is_end_to_end(buf, lines, options, line)
 }
 
 fn is_replaced_line(buf: &[u8], line: &HeaderSpan) -> bool
@@ -391,7 +391,7 @@ fn is_of_forwarding(name: &[u8]) -> bool
 
 // Adds what the proxy says of a client with this address.
 #[tactic(auto, using(std::proofs::Common::append_assoc))]
-fn push_told(lines: &mut FieldLines, address: &[u8], host: &[u8]) -> Result<(), Memory>
+fn push_forwarding_fields(lines: &mut FieldLines, address: &[u8], host: &[u8]) -> Result<(), Memory>
     ensures { OnOk result (lines.new ≡ lines.old ++ told_fields address.now host.now) }
 {
     lines.push(b"X-Forwarded-For", address)?;

@@ -14,5 +14,5 @@ pub use net::{Net, contains};
 pub use prefix::read_net;
 pub use text::{print_ip, prints_are_read, read_ip};
 
-/// Want of memory.
+/// Memory ran out.
 pub type Memory = std::alloc::AllocError;

@@ -34,7 +34,7 @@ pub record HasNoDots (path : List ℕ) : Type 0 where
   pub no_dots : AllByRecursion IsNoDots segments
   pub path_is : path ≡ path_of segments
 
--- a bad escape is told at the first one, and before want of memory
+-- a bad escape is told at the first one, whether or not memory would have run out
 abbrev pub IsFaultOf : List ℕ → PathFault → Type 0
 IsFaultOf path (BadEscape at) = IsFirstBadEscape path at
 IsFaultOf path Memory = HasWholeEscapes path

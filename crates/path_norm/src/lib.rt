@@ -10,5 +10,5 @@ mod tests;
 
 pub use normal::{PathFault, normal_paths_are_normal, normalise};
 
-/// Want of memory.
+/// Memory ran out.
 pub type Memory = std::alloc::AllocError;

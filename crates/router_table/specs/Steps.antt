@@ -32,7 +32,7 @@ abbrev pub is_too_big : RouterFault → Bool
 is_too_big (fault.Compile (compile_fault.TooBig n)) = true
 is_too_big _ = false
 
--- a fault of a rule, or want of memory
+-- a fault of a rule, or that memory ran out
 abbrev pub IsRefusalOf : RuleFault → Refusal → Type 0
 IsRefusalOf f (Fault g) = (g ≡ fault.Rule f) × (f ≢ rule_fault.Memory)
 IsRefusalOf f Memory = ⊤

@@ -13,13 +13,13 @@ pub enum RouterFault {
     Tls,
     /// An option asks for what is not supported.
     Unsupported,
-    /// Its rule is none; never for want of memory.
+    /// Its rule can't be read as a rule. Memory that runs out isn't told so.
     Rule(RuleFault),
     /// Its priority is over 2^63 - 1 - 1000.
     Priority,
     /// Its rule has more patterns than are left.
     TooManyPatterns,
-    /// Its rule isn't compiled; never for want of memory.
+    /// Its rule can't be compiled. Memory that runs out isn't told so.
     Compile(CompileFault),
     /// It names no service.
     NoService,
@@ -35,7 +35,7 @@ pub enum RouterFault {
     ChainTooLong,
 }
 
-// Why a router has no search: its fault, or want of memory.
+// Why a router has no search: its fault, or that memory ran out.
 #[derive(Clone, Copy, Debug, PartialEq, Eq)]
 pub(crate) enum Refusal {
     Fault(RouterFault),

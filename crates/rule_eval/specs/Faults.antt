@@ -16,7 +16,7 @@ use Rattle.rule_eval.specs.declared.compiling.CompileFault.TheVariants.{Address,
 abbrev pub IsNetwork : List ℕ → Type 0
 IsNetwork text = (ip : Ip) × ((bits : ℕ) × WritesNet text ip bits)
 
--- nothing but want of memory and size stands in the way of the call: `ClientIP` has a network, and
+-- nothing but memory and size stands in the way of the call: `ClientIP` has a network, and
 -- what has a pattern has one that the grammar reads
 abbrev pub IsSoundBy : Matcher → List ℕ → Type 0
 IsSoundBy Header value = Unit {0}

@@ -10,7 +10,7 @@ use Rattle.rule_lang.specs.Calls.{IsGoodCall, IsCallFault}
 use Rattle.rule_lang.specs.declared.call.CallFault.{CallFault}
 use Rattle.rule_lang.specs.declared.call.CallFault.TheVariants as call_fault
 
--- the place is the first at which tokens stop; want of memory says nothing of the text
+-- the place is the first at which tokens stop; that memory ran out says nothing of the text
 abbrev pub IsLexFault : List ℕ → LexFault → Type 0
 IsLexFault text (Lex at) = FailsAt text at
 IsLexFault text Memory = Unit {0}

@@ -43,7 +43,7 @@ abbrev pub HasCallFault : List ℕ → CallFault → Type 0
 HasCallFault text f =
     (form : Form) × HasForm text form × (form_depth form ≤ 32) × FirstCallFault text (form_calls form) f
 
--- each fault where it is the first in order; want of memory says nothing of the text
+-- each fault where it is the first in order; that memory ran out says nothing of the text
 abbrev pub IsRuleFault : List ℕ → RuleFault → Type 0
 IsRuleFault text fault.TooLong = 4096 < length text
 IsRuleFault text (fault.Lex at) = (length text ≤ 4096) × FailsAt text at

@@ -12,8 +12,8 @@ pub fn prints_are_rule_texts()
     ensures { (rule : Tree) → IsReadable rule → IsRuleText (rule_print rule) rule }
 {}
 
-/// A text has one outcome, want of memory aside: one rule, or one fault at one place. So the answer
-/// of `read_rule`, where it isn't want of memory, is that one, and each fault comes exactly there.
+/// A text has one outcome unless memory runs out: one rule, or one fault at one place. So `read_rule` answers that one,
+/// or that memory ran out, and each fault comes exactly where it is.
 pub fn outcomes_are_alone()
     ensures { (text : List ℕ) (a b : Result Tree RuleFault) → IsOutcome text a → IsOutcome text b → ¬ (WantsMemory a) → ¬ (WantsMemory b) → a ≡ b }
 {}

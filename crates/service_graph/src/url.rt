@@ -10,7 +10,7 @@ use std::net::Ipv6Addr;
 pub enum UrlFault {
     /// It begins with `https://` or `h2c://`.
     Scheme,
-    /// It is none for another cause.
+    /// It isn't a URL of a server for another reason.
     BadUrl,
 }
 

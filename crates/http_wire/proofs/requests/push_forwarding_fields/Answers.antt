@@ -1,5 +1,5 @@
 use Rattle.http_wire.proofs.Heads.{told}
-use Rattle.http_wire.proofs.requests.push_told.Goals as goal
+use Rattle.http_wire.proofs.requests.push_forwarding_fields.Goals as goal
 
 pub returns : goal.returns
 returns c =
