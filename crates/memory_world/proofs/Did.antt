@@ -41,10 +41,10 @@ began_all a b c d old link = let e = mark_wait old link in record {
 }
 
 -- a wait that was made
-pub seen_waited : (now waits failed stops : ℕ) (old new : List Mark) (records told : List Record) (r : Record) → event_of r ≡ waited → new ≡ map after_wait old → told ≡ records ++ r ∷ [] →
-    seen_of now (one_more waits) failed stops new told ≡ record (with_event (seen_of now waits failed stops old records) waited) { waits = one_more waits }
-seen_waited now waits failed stops old new records told r is shifted grew =
-    subst (λ (ms : List Mark). seen_of now (one_more waits) failed stops ms told ≡ record (with_event (seen_of now waits failed stops old records) waited) { waits = one_more waits }) (sym shifted)
+pub seen_waited : (now waits failed stops until : ℕ) (old new : List Mark) (records told : List Record) (r : Record) → event_of r ≡ waited until → new ≡ map after_wait old → told ≡ records ++ r ∷ [] →
+    seen_of now (one_more waits) failed stops new told ≡ record (with_event (seen_of now waits failed stops old records) (waited until)) { waits = one_more waits }
+seen_waited now waits failed stops until old new records told r is shifted grew =
+    subst (λ (ms : List Mark). seen_of now (one_more waits) failed stops ms told ≡ record (with_event (seen_of now waits failed stops old records) (waited until)) { waits = one_more waits }) (sym shifted)
     (remade now (one_more waits) failed stops (map after_wait old) told _ _ _ _
     (fun_ext (λ l. ap (λ (k : Mark). k.faults) (mark_wait old l))) (fun_ext (λ l. has_wait old l)) (fun_ext (λ l. ap (λ (k : Mark). k.is_open) (mark_wait old l)))
     (more records told r grew ∙ ap (λ (e : Event). Some (map event_of records ++ e ∷ [])) is))

@@ -1,7 +1,6 @@
 -- What a log tells of a link, record by record.
-use Rattle.std.proofs.Common.{◌≡◌, ℕ, List, [], ◌∷◌, ◌++◌, map, ◌≤◌, length, take, refl, sym, ap, ◌∙◌}
+use Rattle.std.proofs.Common.{◌≡◌, ℕ, List, [], ◌∷◌, ◌++◌, map, refl, sym, ap, ◌∙◌}
 use Rattle.std.specs.List.{flat_map}
-use Rattle.std.proofs.lemmas.List.{take_all}
 use Rattle.std.proofs.lemmas.List.Concat.{flat_map-append}
 use Rattle.link_world.specs.declared.note.Note.{Note}
 use Rattle.link_world.specs.Log.{happening, history_of, taken_by, note_by, taken, notes}
@@ -21,9 +20,3 @@ lines_all link (r ∷ records) =
     ap (λ (xs : List ℕ). flat_map note_line (notes (happening link (event_of r))) ++ xs) (lines_all link records)
     ∙ sym (flat_map-append note_line (notes (happening link (event_of r))) (notes (history_of link (map event_of records))))
     ∙ ap (λ (ns : List Note). flat_map note_line ns) (sym (flat_map-append note_by (happening link (event_of r)) (history_of link (map event_of records))))
-
-pub taken_end : (link : ℕ) (records : List Record) (i : ℕ) (bytes : List ℕ) → length records ≤ i → bytes ≡ flat_map (λ (r : Record). taken (happening link (event_of r))) (take i records) → bytes ≡ taken (history_of link (map event_of records))
-taken_end link records i bytes past is = is ∙ ap (λ (rs : List Record). flat_map (λ (r : Record). taken (happening link (event_of r))) rs) (take_all i records past) ∙ taken_all link records
-
-pub lines_end : (link : ℕ) (records : List Record) (i : ℕ) (text : List ℕ) → length records ≤ i → text ≡ flat_map (λ (r : Record). flat_map note_line (notes (happening link (event_of r)))) (take i records) → text ≡ flat_map note_line (notes (history_of link (map event_of records)))
-lines_end link records i text past is = is ∙ ap (λ (rs : List Record). flat_map (λ (r : Record). flat_map note_line (notes (happening link (event_of r)))) rs) (take_all i records past) ∙ lines_all link records

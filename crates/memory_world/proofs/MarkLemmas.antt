@@ -1,6 +1,7 @@
 -- Places of links.
 use Rattle.std.proofs.Common.{◌≡◌, ◌≢◌, ℕ, ◌+◌, ◌<◌, ◌≤◌, List, [], ◌∷◌, ◌++◌, map, refl, sym, ap, ◌∙◌, Bool, true, false, cond, zero, suc, length, get_or, take, subst, add-one, arith}
 use Rattle.std.specs.Prelude.{◌==◌, ◌||◌, slice_set}
+use Rattle.std.proofs.lemmas.Bool.{false≢true}
 use Rattle.std.proofs.lemmas.Bool.Decides.{nat_tests}
 use Rattle.memory_world.specs.declared.mark.Mark.{Mark}
 use Rattle.memory_world.specs.Marks.{blank, has, mark_of, IsFirst, open_count, after_wait, Put, Added}
@@ -47,6 +48,11 @@ first_link [] link at h = absurd h
 first_link (m ∷ marks) link zero h = rw h (grind (arith, nat_tests, h))
 first_link (m ∷ marks) link (suc at) h = rw h.0 (first_link marks link at h.1)
 
+pub first_has : (marks : List Mark) (link at : ℕ) → IsFirst marks link at → has marks link ≡ true
+first_has [] link at h = absurd h
+first_has (m ∷ marks) link zero h = rw h refl
+first_has (m ∷ marks) link (suc at) h = rw h.0 (first_has marks link at h.1)
+
 set_here : (marks : List Mark) (link at : ℕ) (m : Mark) → IsFirst marks link at → (m.link == link) ≡ true → mark_of (slice_set marks at m) link ≡ m
 set_here [] link at m h is = absurd h
 set_here (x ∷ marks) link zero m h is = rw is refl
@@ -76,6 +82,12 @@ pub count_set : (marks : List Mark) (link at : ℕ) (m : Mark) → IsFirst marks
 count_set [] link at m h = absurd h
 count_set (x ∷ marks) link zero m h = rw h (omega arith)
 count_set (x ∷ marks) link (suc at) m h = rw h.0 (let before = count_set marks link at m h.1 in omega (arith, before))
+
+pub count_stays : (n m : ℕ) (a b : Bool) → n + cond a 1 0 ≡ m + cond b 1 0 → b ≡ a → n ≡ m
+count_stays n m a b e is = let f : n + cond a 1 0 ≡ m + cond a 1 0 = e ∙ ap (λ (x : Bool). m + cond x 1 0) is in omega (arith, f)
+
+pub count_falls : (n m : ℕ) (a b : Bool) → n + cond a 1 0 ≡ m + cond b 1 0 → a ≡ true → b ≡ false → n + 1 ≡ m
+count_falls n m a b e was is = let f : n + 1 ≡ m + 0 = sym (ap (λ (x : Bool). n + cond x 1 0) was) ∙ e ∙ ap (λ (x : Bool). m + cond x 1 0) is in omega (arith, f)
 
 pub count_most : (marks : List Mark) → open_count marks ≤ length marks
 count_most [] = omega arith
@@ -132,6 +144,18 @@ added_push marks m h = record {
 pub added_from : (old marks new : List Mark) (m : Mark) → marks ≡ old → new ≡ marks ++ m ∷ [] → has old m.link ≡ false → Added old m.link m new
 added_from old marks new m is grew h = subst (λ (ms : List Mark). Added old m.link m ms) (sym (grew ∙ ap (λ (ms : List Mark). ms ++ m ∷ []) is)) (added_push old m h)
 
+or_keeps : (a b c : Bool) → (b ≡ true → c ≡ true) → (a || b) ≡ true → (a || c) ≡ true
+or_keeps true b c f h = refl
+or_keeps false b c f h = f h
+
+push_keeps : (marks : List Mark) (m : Mark) (l : ℕ) → has marks l ≡ true → has (marks ++ m ∷ []) l ≡ true
+push_keeps [] m l h = absurd (false≢true h)
+push_keeps (x ∷ marks) m l h = or_keeps (x.link == l) (has marks l) (has (marks ++ m ∷ []) l) (push_keeps marks m l) h
+
+-- no link is forgotten where one comes
+pub come_keeps : (marks grown : List Mark) (m : Mark) → grown ≡ marks ++ m ∷ [] → (l : ℕ) → has marks l ≡ true → has grown l ≡ true
+come_keeps marks grown m e l h = ap (λ (ms : List Mark). has ms l) e ∙ push_keeps marks m l h
+
 pub mark_wait : (marks : List Mark) (link : ℕ) → mark_of (map after_wait marks) link ≡ after_wait (mark_of marks link)
 mark_wait [] link = refl
 mark_wait (m ∷ marks) link = choose (m.link == link) (mark_wait marks link)
@@ -143,3 +167,6 @@ mark_wait (m ∷ marks) link = choose (m.link == link) (mark_wait marks link)
 pub has_wait : (marks : List Mark) (link : ℕ) → has (map after_wait marks) link ≡ has marks link
 has_wait [] link = refl
 has_wait (m ∷ marks) link = ap (λ (b : Bool). (m.link == link) || b) (has_wait marks link)
+
+pub wait_keeps : (marks begun : List Mark) → begun ≡ map after_wait marks → (l : ℕ) → has marks l ≡ true → has begun l ≡ true
+wait_keeps marks begun e l h = ap (λ (ms : List Mark). has ms l) e ∙ has_wait marks l ∙ h

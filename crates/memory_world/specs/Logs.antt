@@ -4,9 +4,9 @@ use Rattle.memory_world.specs.declared.world.MemoryWorld.{MemoryWorld}
 use Rattle.memory_world.specs.Marks.{mark_of}
 use Rattle.memory_world.specs.Records.{event_of}
 
--- the log that a world in memory tells
+-- the log that a world in memory tells: all that was done, whatever record was left out
 abbrev pub log_of : MemoryWorld → List Event
-log_of world = map event_of world.book.records
+log_of world = map event_of world.book.log
 
 -- the link was given and isn't closed
 abbrev pub is_open : MemoryWorld → ℕ → Bool

@@ -1,5 +1,5 @@
 -- What comes to a world in memory.
-use Rattle.std.specs.Prelude.{◌≡◌, ℕ, List, [], map}
+use Rattle.std.specs.Prelude.{◌≡◌, ℕ, List, [], map, false}
 use Rattle.memory_world.specs.declared.script.Given.{Given}
 use Rattle.memory_world.specs.declared.script.Given.TheVariants as given
 use Rattle.memory_world.specs.declared.script.Item.{Item}
@@ -26,5 +26,12 @@ pub record Begins (steps : List Given) (failing : List ℕ) (w : MemoryWorld) : 
   pub script : IsScriptOf steps w.script
   pub failing_are : w.failing.listed.items ≡ failing
   pub no_calls : w.failing.calls ≡ 0
-  pub no_records : w.book.records ≡ []
+  pub no_log : w.book.log ≡ []
   pub no_links : w.book.marks ≡ []
+  pub none_lost : w.book.lost ≡ false
+  pub clock : w.clock ≡ 0
+  pub waits : w.waits ≡ 0
+  pub waits_failed : w.waits_failed ≡ 0
+  pub stops : w.stops ≡ 0
+  pub clocked : w.clocked ≡ false
+  pub no_more : w.no_more ≡ false

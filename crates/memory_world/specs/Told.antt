@@ -7,7 +7,7 @@ use Rattle.memory_world.specs.Marks.{has, mark_of}
 use Rattle.memory_world.specs.Records.{event_of}
 
 abbrev pub seen_of : ℕ → ℕ → ℕ → ℕ → List Mark → List Record → Seen
-seen_of now waits failed stops marks records = record {
+seen_of now waits failed stops marks log = record {
   now = now;
   waits = waits;
   waits_failed = failed;
@@ -15,5 +15,5 @@ seen_of now waits failed stops marks records = record {
   faults = λ l. (mark_of marks l).faults;
   come = λ l. has marks l;
   is_open = λ l. (mark_of marks l).is_open;
-  log = Some (map event_of records);
+  log = Some (map event_of log);
 }

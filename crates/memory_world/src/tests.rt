@@ -1,5 +1,5 @@
 //! A script, and what its world tells.
-use crate::{Given, MemoryWorld};
+use crate::{Given, MemoryWorld, Record};
 use ip_net::Ip;
 use link_world::{Arrival, EndCause, LinkRead, LinkWrite, Note, NoteBody, World};
 use px_base::Bytes;
@@ -117,5 +117,47 @@ fn a_script(rt: HostRuntime) -> Result<(), Fail> {
     expect_text(&rt, &world.taken(alloc, 5)?, "abc");
     expect_text(&rt, &world.taken(alloc, 3)?, "");
     expect_text(&rt, &world.note_lines(alloc, 3)?, "note 3 end Stopped\n");
+    Ok(())
+}
+
+// The second counted call, a read, and the third, a wait, were to fail.
+fn faults<R: Abort + Wait>(rt: &R, world: &mut MemoryWorld) -> Result<(), Fail> {
+    assert!(rt; world.wait(rt, 7).is_ok());
+    assert_eq!(rt; world.now(), 5);
+    expect_arrival(rt, world, Some(3))?;
+    expect_read(rt, world, 3, LinkRead::Failed, "");
+    assert!(rt; !world.stop_asked());
+    assert!(rt; world.wait(rt, 8).is_err());
+    world.close(3);
+    Ok(())
+}
+
+fn tells_faults(records: &[Record]) -> bool {
+    match records {
+        [
+            Record::Waited { until: 7 },
+            Record::Clock { now: 5 },
+            Record::Came {
+                link: 3,
+                stamp: 5,
+                ..
+            },
+            Record::Failed { link: 3, stamp: 5 },
+            Record::Asked { answer: false },
+            Record::WaitFailed { until: 8 },
+            Record::Closed { link: 3, stamp: 5 },
+        ] => true,
+        _ => false,
+    }
+}
+
+#[test]
+fn what_failed_and_what_was_asked_are_records(rt: HostRuntime) -> Result<(), Fail> {
+    let alloc = rt.alloc();
+    let failing = Vec::from_slice(alloc, &[2, 3])?;
+    let mut world = MemoryWorld::new(alloc, steps(alloc)?, failing)?;
+    faults(&rt, &mut world)?;
+    assert!(rt; tells_faults(world.records()));
+    assert!(rt; !world.has_lost_records());
     Ok(())
 }

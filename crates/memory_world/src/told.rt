@@ -17,8 +17,9 @@ impl MemoryWorld {
     pub fn taken(&self, alloc: Global, link: u32) -> Result<Vec<u8>, Memory>
         ensures { IfOk result (λ bytes. bytes.items ≡ taken (history_of link (log_of self.now))) }
     {
+        let kept = self.records();
         let mut bytes = Vec::new(alloc);
-        for entry in self.records() {
+        for entry in kept {
             push_taken(entry, link, &mut bytes)?;
         }
         Ok(bytes)
@@ -28,8 +29,9 @@ impl MemoryWorld {
     pub fn note_lines(&self, alloc: Global, link: u32) -> Result<Vec<u8>, Memory>
         ensures { IfOk result (λ text. text.items ≡ flat_map note_line (notes (history_of link (log_of self.now)))) }
     {
+        let kept = self.records();
         let mut text = Vec::new(alloc);
-        for entry in self.records() {
+        for entry in kept {
             push_notes(alloc, entry, link, &mut text)?;
         }
         Ok(text)
@@ -44,6 +46,7 @@ fn push_taken(entry: &Record, link: u32, bytes: &mut Vec<u8>) -> Result<(), Memo
         Record::Took {
             link: l,
             bytes: took,
+            ..
         } => {
             if *l == link {
                 bytes.extend_from_slice(took.as_slice())?;

@@ -1,7 +1,8 @@
 //! The world in memory: what its calls do.
-ghost use Rattle.std.specs.Prelude.{◌≡◌, ◌<◌, length, true, IfOk};
+ghost use Rattle.std.specs.Prelude.{◌≡◌, ◌<◌, length, true, false, IfOk};
 ghost use Rattle.px_base.specs.Bytes.{one_more};
 ghost use Rattle.px_base.specs.Memory.{is_listed};
+ghost use Rattle.memory_world.specs.Books.{AreRecords};
 ghost use Rattle.memory_world.specs.Logs.{is_open};
 ghost use Rattle.memory_world.specs.Scripts.{Begins};
 
@@ -87,11 +88,20 @@ impl MemoryWorld {
         }
     }
 
-    /// What was done, in order.
+    /// What was done, in order. Where memory ran out, the record of a failed wait, of a call on a link that failed or of a
+    /// question whether to stop may be left out.
     pub fn records(&self) -> &[Record]
-        ensures { result.now ≡ self.now.book.records }
+        ensures kept { AreRecords self.now.book.marks self.now.book.log result.now }
+        ensures all { self.now.book.lost ≡ false → result.now ≡ self.now.book.log }
     {
         self.book.records()
+    }
+
+    /// Whether a record was left out.
+    pub fn has_lost_records(&self) -> bool
+        ensures { result ≡ self.now.book.lost }
+    {
+        self.book.has_lost()
     }
 }
 
@@ -99,17 +109,19 @@ impl World for MemoryWorld {
     ghost use Rattle.memory_world.specs.Told.{seen_of};
     ghost use Rattle.memory_world.specs.Marks.{lately_of};
 
-    ghost seen = { λ w. seen_of w.clock w.waits w.waits_failed w.stops w.book.marks w.book.records };
+    ghost seen = { λ w. seen_of w.clock w.waits w.waits_failed w.stops w.book.marks w.book.log };
 
     ghost lately = { λ w. lately_of w.clocked w.no_more w.book.marks };
 
-    fn wait<R: Wait>(&mut self, _rt: &R, _until: u64) -> Result<(), WaitFailed> {
+    fn wait<R: Wait>(&mut self, _rt: &R, until: u64) -> Result<(), WaitFailed> {
         if self.failing.next() || self.script.is_over() {
             self.waits_failed = self.waits_failed.saturating_add(1);
+            self.book.tell(Record::WaitFailed { until });
             return Err(WaitFailed);
         }
-        let Ok(()) = self.book.begin() else {
+        let Ok(()) = self.book.begin(until) else {
             self.waits_failed = self.waits_failed.saturating_add(1);
+            self.book.tell(Record::WaitFailed { until });
             return Err(WaitFailed);
         };
         self.waits = self.waits.saturating_add(1);
@@ -148,6 +160,7 @@ impl World for MemoryWorld {
         let told = Bytes::from_slice(self.alloc, entry.as_slice())?;
         let came = Record::Came {
             link,
+            stamp: self.clock,
             entry: told,
             peer,
         };
@@ -165,7 +178,12 @@ impl World for MemoryWorld {
             return Err(AllocError);
         }
         let host = Bytes::from_slice(self.alloc, host)?;
-        let dialled = Record::Dialled { link, host, port };
+        let dialled = Record::Dialled {
+            link,
+            stamp: self.clock,
+            host,
+            port,
+        };
         self.book.come(Mark::new(link, is_dead), dialled)?;
         self.next_dial = self.next_dial.saturating_add(1);
         Ok(link)
@@ -176,8 +194,9 @@ impl World for MemoryWorld {
             unreachable!()
         };
         let mark = self.book.mark(at, link);
+        let stamp = self.clock;
         if self.failing.next() || mark.is_dead {
-            self.book.put(at, mark.read(false).failed());
+            self.book.fail(at, mark.read(false), stamp);
             return LinkRead::Failed;
         }
         match self.script.fetch(link, room) {
@@ -186,17 +205,19 @@ impl World for MemoryWorld {
                 LinkRead::NotYet
             }
             Fetched::End => {
-                let Ok(()) = self.book.did_read(at, mark, Record::GaveEnd { link }) else {
+                let end = Record::GaveEnd { link, stamp };
+                let Ok(()) = self.book.did_read(at, mark, stamp, end) else {
                     return LinkRead::Failed;
                 };
                 LinkRead::End
             }
             Fetched::Got(n) => {
                 let Ok(bytes) = Bytes::from_slice(self.alloc, &room[..n]) else {
-                    self.book.put(at, mark.read(false).failed());
+                    self.book.fail(at, mark.read(false), stamp);
                     return LinkRead::Failed;
                 };
-                let Ok(()) = self.book.did_read(at, mark, Record::Gave { link, bytes }) else {
+                let gave = Record::Gave { link, stamp, bytes };
+                let Ok(()) = self.book.did_read(at, mark, stamp, gave) else {
                     return LinkRead::Failed;
                 };
                 self.script.advance(link, n);
@@ -210,15 +231,17 @@ impl World for MemoryWorld {
             unreachable!()
         };
         let mark = self.book.mark(at, link);
+        let stamp = self.clock;
         if self.failing.next() || mark.is_dead {
-            self.book.put(at, mark.written(false).failed());
+            self.book.fail(at, mark.written(false), stamp);
             return LinkWrite::Failed;
         }
         let Ok(bytes) = Bytes::from_slice(self.alloc, piece) else {
-            self.book.put(at, mark.written(false).failed());
+            self.book.fail(at, mark.written(false), stamp);
             return LinkWrite::Failed;
         };
-        let Ok(()) = self.book.did_write(at, mark, Record::Took { link, bytes }) else {
+        let took = Record::Took { link, stamp, bytes };
+        let Ok(()) = self.book.did_write(at, mark, stamp, took) else {
             return LinkWrite::Failed;
         };
         LinkWrite::Took(piece.len())
@@ -232,13 +255,13 @@ impl World for MemoryWorld {
         if !mark.is_open {
             return;
         }
-        let faults = self.waits_failed;
-        self.book.close(at, mark, Record::Closed { link, faults });
+        let stamp = self.clock;
+        self.book.close(at, mark, Record::Closed { link, stamp });
     }
 
     fn note(&mut self, note: Note) -> Result<(), Memory> {
-        let faults = self.waits_failed;
-        let Ok(()) = self.book.push(Record::Noted { note, faults }) else {
+        let stamp = self.clock;
+        let Ok(()) = self.book.push(Record::Noted { note, stamp }) else {
             self.waits_failed = self.waits_failed.saturating_add(1);
             return Err(AllocError);
         };
@@ -247,11 +270,10 @@ impl World for MemoryWorld {
 
     fn stop_asked(&mut self) -> bool {
         if !self.script.has_stop() {
+            self.book.tell(Record::Asked { answer: false });
             return false;
         }
-        let Ok(()) = self.book.push(Record::Stopped) else {
-            return false;
-        };
+        self.book.tell(Record::Asked { answer: true });
         self.stops = self.stops.saturating_add(1);
         true
     }

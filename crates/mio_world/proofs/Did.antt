@@ -119,8 +119,8 @@ module _ (now failed stops : ℕ) (old new : TableView) (link : ℕ) where
   )
 
 -- a wait that was made
-pub waited_did : (now failed stops : ℕ) (old new : TableView) → old.waits < 2 ^ 64 - 1 → new.waits ≡ old.waits + 1 → ((l : ℕ) → meaning new l ≡ began (old.waits + 1) (meaning old l)) → seen_of now failed stops new ≡ record (with_event (seen_of now failed stops old) waited) { waits = one_more old.waits }
-waited_did now failed stops old new fits waits all = remade now failed stops (one_more old.waits) new _ _ _ (omega (arith, waits, fits))
+pub waited_did : (now failed stops until : ℕ) (old new : TableView) → old.waits < 2 ^ 64 - 1 → new.waits ≡ old.waits + 1 → ((l : ℕ) → meaning new l ≡ began (old.waits + 1) (meaning old l)) → seen_of now failed stops new ≡ record (with_event (seen_of now failed stops old) (waited until)) { waits = one_more old.waits }
+waited_did now failed stops until old new fits waits all = remade now failed stops (one_more old.waits) new _ _ _ (omega (arith, waits, fits))
     (fun_ext (λ l. ap (λ (k : Meaning). k.faults) (all l))) (fun_ext (λ l. ap (λ (k : Meaning). k.come) (all l))) (fun_ext (λ l. ap (λ (k : Meaning). k.is_open) (all l)))
 
 pub waited_lately : (a b c d : Bool) (old new : TableView) (waits : ℕ) (l : ℕ) → meaning new l ≡ began waits (meaning old l) → Began (lately_of a b old) l (lately_of c d new)

@@ -132,7 +132,7 @@ impl<R: Net + Clock + Drop, K: Sink + Drop> World for MioWorld<R, K> {
     ghost lately = { λ w. lately_in w };
 
     fn wait<W: Wait>(&mut self, _rt: &W, until: u64) -> Result<(), WaitFailed>
-        ensures seen { WaitDid (seen_in self.old) result (seen_in self.new) }
+        ensures seen { WaitDid (seen_in self.old) until result (seen_in self.new) }
         ensures lately { WaitLately (seen_in self.old).is_open (lately_in self.old) result (lately_in self.new) }
 
         // After a note was refused each wait fails.

@@ -7,4 +7,4 @@ use Rattle.memory_world.specs.Records.{event_of}
 use Rattle.memory_world.proofs.world.MemoryWorld.note_lines.Given as goal
 
 abbrev pub invariant-loop-entry : goal.invariant-loop-entry
-invariant-loop-entry l = l.text.items ≡ flat_map (λ (r : Record). flat_map note_line (notes (happening l.link (event_of r)))) (take l.entry-index l.self.book.records)
+invariant-loop-entry l = l.text.items ≡ flat_map (λ (r : Record). flat_map note_line (notes (happening l.link (event_of r)))) (take l.entry-index l.kept)

@@ -8,7 +8,7 @@ use Rattle.memory_world.proofs.world.MemoryWorldWorld.wait.Goals as goal
 
 pub returns-clause-seen : goal.returns-clause-seen
 returns-clause-seen g c = rw c.saturating_add-self-2.ensures
-    (seen_waited c.args.self.now.clock c.args.self.now.waits c.args.self.now.waits_failed c.args.self.now.stops c.args.self.now.book.marks c.begin.new.self.marks c.args.self.now.book.records c.begin.new.self.records kept.Waited refl (search rules) (search rules))
+    (seen_waited c.args.self.now.clock c.args.self.now.waits c.args.self.now.waits_failed c.args.self.now.stops c.args.until c.args.self.now.book.marks c.begin.new.self.marks c.args.self.now.book.log c.begin.new.self.log (kept.Waited c.args.until) refl (search rules) (search rules))
 
 pub returns-clause-lately : goal.returns-clause-lately
 returns-clause-lately g c = (refl, refl, λ l _. subst (λ (ms : List Mark). Began (lately_of c.args.self.now.clocked c.args.self.now.no_more c.args.self.now.book.marks) l (lately_of false false ms)) (sym (search rules)) (began_all _ _ _ _ c.args.self.now.book.marks l))
