@@ -14,12 +14,12 @@ use Rattle.back_machine.specs.declared.state.BackState.TheVariants as backs
 use Rattle.back_machine.specs.Forwarding.{forwarded}
 use Rattle.conversation.specs.Plans.{Target}
 use Rattle.conversation.specs.Asks.{asks}
-use Rattle.conversation.specs.Steps.{Step, happened, history, IsNew}
+use Rattle.conversation.specs.Steps.{Step, happened, history, elsewhere, IsNew}
 use Rattle.conversation.specs.Turns.{picked, sent, Turn, BackLink, message_to, links_of, IsAt, IsSent, IsUndecided, AnswersBy, IsTold, IsLinkTold}
 use Rattle.conversation.specs.Served.{backs_of, IsAnswered}
 use Rattle.conversation.specs.Holding.{told}
 use Rattle.conversation.proofs.Tellings.{told_elsewhere, told_more, history_more, Apart, other_link, failures_happened}
-use Rattle.conversation.proofs.Holdings.{all_both, holds_replied, own_new}
+use Rattle.conversation.proofs.Holdings.{all_both, holds_replied, holds_others, own_new, last_link, more_links}
 use Rattle.conn_machine.specs.Parts.{Trail, Fits, IsAim, IsElse, IsAimedAt, IsDialling, IsExchanging, IsFailing, Passing, issue_plan}
 use Rattle.conn_machine.specs.Reached.{Opened}
 use Rattle.conn_machine.specs.declared.parts.Aim.{Aim}
@@ -118,7 +118,8 @@ opened_dialled {steps} {k} {m} {trail} {input} {pending} {waiting} {over} l aim 
       turn = v;
       rest = t.rest;
       holds = holds_as (told_elsewhere k.link l steps e away) refl refl refl refl refl refl refl alike.number alike.index
-          (holds_replied v [] (record { index = refl; item = refl; plan = refl; looks = refl; picks = refl; spents = refl }) (sym (append-nil u.reply)) (sym (append-nil pending)) (λ c d. absurd (unknown_by v b undecided.unfinished refl (λ r asked. nothing_whole r.method) d)) (own_new t.done u v l (ap links_of x.6) refl (all_others l t.done apart)) t.holds);
+          (holds_others (elsewhere k.link steps ++ l ∷ []) (more_links t.done (Some v) l (elsewhere k.link steps) (last_link t.done v l refl))
+          (holds_replied v [] (record { index = refl; item = refl; plan = refl; looks = refl; picks = refl; spents = refl }) (sym (append-nil u.reply)) (sym (append-nil pending)) (λ c d. absurd (unknown_by v b undecided.unfinished refl (λ r asked. nothing_whole r.method) d)) (own_new t.done u v l (ap links_of x.6) refl (all_others l t.done apart)) t.holds));
       sound = record {
         all = all_shown steps l e k.entry k.peer t.done apart t.sound.all;
         one = record {
@@ -145,6 +146,7 @@ opened_dialled {steps} {k} {m} {trail} {input} {pending} {waiting} {over} l aim 
         backs = sym (in_backs ∙ ap (λ (y : List ℕ). y ++ l ∷ []) (sym t.tied.backs ∙ ap links_of x.6));
       };
       kept = t.kept;
+      unfailed = failures_happened k.link l steps e ∙ t.unfailed;
       pinned = alike.pinned ∙ t.pinned;
       rest_is = t.rest_is ∙ ap (λ (n : ℕ). drop n input) (sym alike.size);
       fits = subst (λ (n : ℕ). n ≤ length input) (sym alike.size) t.fits;
@@ -205,6 +207,7 @@ opened_exchange {steps} {k} {m} {trail} {input} {pending} {waiting} {over} aim r
         backs = t.tied.backs;
       };
       kept = t.kept;
+      unfailed = t.unfailed;
       pinned = alike.pinned ∙ t.pinned;
       rest_is = t.rest_is ∙ ap (λ (n : ℕ). drop n input) (sym alike.size);
       fits = subst (λ (n : ℕ). n ≤ length input) (sym alike.size) t.fits;

@@ -11,11 +11,11 @@ use Rattle.link_world.specs.Log.{LinkEvent, took, given, taken, ends}
 use Rattle.back_machine.specs.Replies.{HasReply}
 use Rattle.back_machine.specs.Exchanges.{BackView, Exchanged, Receives}
 use Rattle.conversation.specs.Plans.{Plan}
-use Rattle.conversation.specs.Steps.{Step, happened, history}
+use Rattle.conversation.specs.Steps.{Step, happened, history, elsewhere}
 use Rattle.conversation.specs.Turns.{sent, Turn, BackLink, message_to, links_of, IsSent, Answers, AnswersBy, IsTold, IsLinkTold}
 use Rattle.conversation.specs.Holding.{IsReplyKnown}
 use Rattle.conversation.proofs.Tellings.{told_elsewhere, history_more, failures_happened, client_apart}
-use Rattle.conversation.proofs.Holdings.{holds_replied, own_same, given_more, taken_more, ends_more}
+use Rattle.conversation.proofs.Holdings.{holds_replied, holds_others, own_same, last_link, more_links, given_more, taken_more, ends_more}
 use Rattle.conn_machine.specs.Parts.{Trail, Fits, IsElse, IsExchanging, IsFailing, Passing}
 use Rattle.conn_machine.specs.Reached.{Opened, pending_to}
 use Rattle.conn_machine.specs.declared.parts.Asked.{Asked}
@@ -91,7 +91,8 @@ opened_event {steps} {k} {m} {trail} {input} {pending} {waiting} {over} e status
       turn = v;
       rest = t.rest;
       holds = holds_as (told_elsewhere k.link m.link steps e (away t)) refl refl refl refl refl refl refl alike.number alike.index
-          (holds_replied v more (record { index = refl; item = refl; plan = refl; looks = refl; picks = refl; spents = refl }) refl in_pending (λ c. knows) (own_same o.done u v (sym (ap links_of x.sent.back))) t.holds);
+          (holds_others (elsewhere k.link steps ++ m.link ∷ []) (more_links o.done (Some v) m.link (elsewhere k.link steps) (last_link o.done v m.link (ap (λ (n : ℕ). n ∷ []) x.number)))
+          (holds_replied v more (record { index = refl; item = refl; plan = refl; looks = refl; picks = refl; spents = refl }) refl in_pending (λ c. knows) (own_same o.done u v (sym (ap links_of x.sent.back))) t.holds));
       sound = record {
         all = all_shown steps m.link e k.entry k.peer o.done x.apart t.sound.all;
         one = record {
@@ -118,6 +119,7 @@ opened_event {steps} {k} {m} {trail} {input} {pending} {waiting} {over} e status
         backs = sym (ap links_of x.sent.back) ∙ t.tied.backs;
       };
       kept = t.kept;
+      unfailed = failures_happened k.link m.link steps e ∙ t.unfailed;
       pinned = alike.pinned ∙ t.pinned;
       rest_is = t.rest_is ∙ ap (λ (n : ℕ). drop n input) (sym alike.size);
       fits = subst (λ (n : ℕ). n ≤ length input) (sym alike.size) t.fits;

@@ -4,13 +4,14 @@ use Rattle.std.proofs.lemmas.List.{length-append, take-append-le, drop-append-le
 use Rattle.ip_net.specs.declared.ip.Ip.{Ip}
 use Rattle.link_world.specs.declared.note.Note.{Note}
 use Rattle.link_world.specs.declared.note.EndCause.{EndCause}
+use Rattle.link_world.specs.declared.note.EndCause.TheVariants.{ClientFailed}
 use Rattle.link_world.specs.Log.{gave, gave_end, took, taken}
 use Rattle.conversation.specs.Steps.{Step, happened, failed, stopped, history, failures, stops}
 use Rattle.conversation.specs.Asks.{IsItem}
 use Rattle.conversation.specs.Turns.{Stage as TurnStage, Turn}
 use Rattle.conversation.specs.Served.{IfLast, EndHolds}
 use Rattle.conversation.specs.Holding.{Told, Holds, IsReplyKnown, IsUntaken}
-use Rattle.conversation.proofs.Tellings.{told_happened, told_failed, told_stopped, sound_happened, sound_failed, sound_stopped}
+use Rattle.conversation.proofs.Tellings.{told_happened, told_failed, told_stopped, failures_happened, failures_more, failures_quiet, sound_happened, sound_failed, sound_stopped}
 use Rattle.conversation.proofs.Holdings.{holds_gave, holds_over, holds_forgot, holds_took}
 use Rattle.http_wire.specs.declared.message.Request.{Request as HttpRequest}
 use Rattle.http_wire.specs.declared.message.Reply.{Reply as HttpReply}
@@ -45,6 +46,7 @@ opened {steps} {c} is r =
       sound = r.kept.sound;
       tied = r.kept.tied;
       kept = p.2;
+      unfailed = p.4;
       stage = p.3;
     }
 
@@ -63,7 +65,7 @@ reached_open {steps} d is o =
       rest = o.rest;
       left = pending_of d;
       kept = k;
-      phase = subst (λ (p : Phase). PhaseHolds p steps d o.done o.last o.rest (pending_of d) d.current.index) (sym is) (refl, refl, o.kept, o.stage);
+      phase = subst (λ (p : Phase). PhaseHolds p steps d o.done o.last o.rest (pending_of d) d.current.index) (sym is) (refl, refl, o.kept, o.stage, o.unfailed);
     }
 
 -- a machine whose bytes may be lost
@@ -163,6 +165,7 @@ opened_gave {steps} {k} {m} {input} {pending} {at} piece {input'} is o = record 
   sound = sound_happened k.link steps (gave piece) k.entry k.peer o.done o.last o.holds.arrived o.sound;
   tied = o.tied;
   kept = o.kept;
+  unfailed = failures_happened k.link k.link steps (gave piece) ∙ o.unfailed;
   stage = stage_gave at k m input pending o.done o.last o.rest piece input' is o.stage;
 }
 
@@ -177,6 +180,7 @@ opened_over {steps} {k} o untaken = record {
   sound = sound_happened k.link steps gave_end k.entry k.peer o.done o.last o.holds.arrived o.sound;
   tied = o.tied;
   kept = o.kept;
+  unfailed = failures_happened k.link k.link steps gave_end ∙ o.unfailed;
   stage = o.stage;
 }
 
@@ -278,23 +282,28 @@ opened_took {steps} {k} {m} {input} {pending} {at} n {pending'} is o = record {
   sound = sound_happened k.link steps (took (take n pending)) k.entry k.peer o.done o.last o.holds.arrived o.sound;
   tied = o.tied;
   kept = o.kept;
+  unfailed = failures_happened k.link k.link steps (took (take n pending)) ∙ o.unfailed;
   stage = stage_took at k m input pending o.done o.last o.rest n pending' is o.stage;
 }
 
--- the client's link failed, or a stop came: nothing else changes
-pub opened_failed : {steps : List Step} {k : Client} {m : Current} {trail : Trail} {input pending : List ℕ} {waiting : List Note} {over : Bool} {at : Stage}
-    → Opened steps k m trail input pending waiting over at → Opened (steps ++ failed k.link ∷ []) k m trail input pending waiting over at
-opened_failed {steps} {k} o = record {
+-- the client's link failed
+pub reached_failed : {steps : List Step} (d : Conn) {input pending : List ℕ} {at : Stage} → d.phase ≡ Over ClientFailed
+    → Opened steps d.client d.current (trail_of d) input pending d.notes.items d.over at → Reached (steps ++ failed d.client.link ∷ []) d
+reached_failed {steps} d {pending} is o = record {
   done = o.done;
   last = o.last;
   rest = o.rest;
-  holds = holds_as (told_failed k.link k.link steps) refl refl refl refl refl refl refl refl refl o.holds;
-  sound = sound_failed k.link steps k.entry k.peer o.done o.last o.holds.arrived o.sound;
-  tied = o.tied;
-  kept = o.kept;
-  stage = o.stage;
+  left = pending;
+  kept = record {
+    next = d.current.index;
+    holds = holds_as (told_failed d.client.link steps) refl refl refl refl refl (ap (ending_note d.client.link) is) (ap (λ (q : Phase). open_over q d.over) is) refl refl (holds_forgot o.holds);
+    sound = sound_failed d.client.link steps d.client.entry d.client.peer o.done o.last o.holds.arrived o.sound;
+    tied = o.tied;
+  };
+  phase = subst (λ (p : Phase). PhaseHolds p (steps ++ failed d.client.link ∷ []) d o.done o.last o.rest pending d.current.index) (sym is) (failures_more d.client.link steps);
 }
 
+-- a stop came
 pub opened_stopped : {steps : List Step} {k : Client} {m : Current} {trail : Trail} {input pending : List ℕ} {waiting : List Note} {over : Bool} {at : Stage}
     → Opened steps k m trail input pending waiting over at → Opened (steps ++ stopped ∷ []) k m trail input pending waiting over at
 opened_stopped {steps} {k} o = record {
@@ -305,6 +314,7 @@ opened_stopped {steps} {k} o = record {
   sound = sound_stopped steps k.entry k.peer o.done o.last o.sound;
   tied = o.tied;
   kept = o.kept;
+  unfailed = failures_quiet k.link steps stopped refl ∙ o.unfailed;
   stage = o.stage;
 }
 

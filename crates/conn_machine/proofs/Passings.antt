@@ -1,6 +1,6 @@
 -- An exchange that goes on, or ends.
 use Rattle.std.proofs.Common.{◌≡◌, ◌≢◌, ◌⊎◌, inl, inr, zero, suc, ℕ, ◌≤◌, List, [], ◌∷◌, ◌++◌, length, take, drop, Option, Some, None, refl, sym, ◌∙◌, ap, subst, Bool, true, false, append_assoc}
-use Rattle.std.specs.List.{AllByRecursion}
+use Rattle.std.specs.List.{AllByRecursion, Contains}
 use Rattle.std.specs.Prelude.{is_some}
 use Rattle.std.proofs.lemmas.List.{append-nil, drop-append-le}
 use Rattle.ip_net.specs.declared.ip.Ip.{Ip}
@@ -19,13 +19,13 @@ use Rattle.back_machine.specs.declared.state.BackState.TheVariants as state
 use Rattle.back_machine.specs.declared.state.BackCause.{BackCause}
 use Rattle.back_machine.specs.declared.state.BackCause.TheVariants as why
 use Rattle.conversation.specs.Asks.{Ask, asks, refusal}
-use Rattle.conversation.specs.Steps.{Step, happened, failed, history, failures}
+use Rattle.conversation.specs.Steps.{Step, happened, failed, history, failures, elsewhere}
 use Rattle.conversation.specs.Turns.{sent, Turn, BackLink, HasWholeReply, closes, ends_after, message_to, links_of, IsSent, IsOwnText, Answers, AnswersBy, IsTold, IsLinkTold}
-use Rattle.conversation.specs.Served.{IsAnswered, IsCutBy, IfLast, EndHolds}
+use Rattle.conversation.specs.Served.{of_all, backs_of, IsAnswered, IsCutBy, IfLast, EndHolds}
 use Rattle.conversation.specs.Holding.{told, IsReplyKnown}
-use Rattle.conversation.proofs.Tellings.{told_elsewhere, history_more, failures_happened, told_failed, told_more, apart_failed, history_failed, failures_failed}
+use Rattle.conversation.proofs.Tellings.{told_elsewhere, history_more, failures_happened, told_failed_elsewhere, failures_failed_elsewhere, told_more, apart_failed, history_failed, failures_failed}
 use Rattle.conversation.proofs.Completions.{whole_not_short, whole_not_none}
-use Rattle.conversation.proofs.Holdings.{holds_replied, own_same, holds_forgot, given_more, taken_more, ends_end}
+use Rattle.conversation.proofs.Holdings.{holds_replied, holds_others, own_same, last_link, more_links, holds_forgot, given_more, taken_more, ends_end}
 use Rattle.conn_machine.specs.Parts.{Trail, TiedBy, Fits, IsElse, IsExchanging, IsFailing, Passing, end_by, refused_status}
 use Rattle.conn_machine.specs.Relays.{Relays, new_head, IsVersion, IsOutcome, lost_cause, heard_status, heard_cause}
 use Rattle.conn_machine.specs.Reached.{Reached, Opened, PhaseHolds, ending_note, closed_by, trail_of, open_over}
@@ -66,17 +66,21 @@ sent_as entry peer r row old b u v is item ask plan router looks_is picks_is spe
 -- what is kept of the request, once its link or its reply has become this
 pub turned : {steps : List Step} {k : Client} {m : Current} {trail : Trail} {input pending : List ℕ} {waiting : List Note} {over : Bool} {steps' : List Step} {P : Turn → Type 0} (old b : BackLink) (status : ℕ) (cause : Cause) (more : List ℕ) (whole : Bool) (Q : Turn → Type 0) {m' : Current} {pending' : List ℕ}
     (t : Turning steps k m trail input pending waiting over P) → t.turn.back ≡ Some old → b.link ≡ old.link
-    → told k.link steps' ≡ told k.link steps → AllByRecursion (IsAnswered steps' k.entry k.peer) t.done
+    → (others : List ℕ) → told k.link steps' ≡ record (told k.link steps) { others = others }
+    → (Contains (of_all backs_of t.done (Some (moving t.turn b status cause more whole))) old.link → AllByRecursion (Contains (of_all backs_of t.done (Some (moving t.turn b status cause more whole)))) (elsewhere k.link steps)
+    → AllByRecursion (Contains (of_all backs_of t.done (Some (moving t.turn b status cause more whole)))) others)
+    → failures k.link steps' ≡ failures k.link steps → AllByRecursion (IsAnswered steps' k.entry k.peer) t.done
     → IsAlike m m' → m'.router ≡ m.router → m'.status ≡ status → m'.cause ≡ cause → pending' ≡ pending ++ more
     → Answers k.entry k.peer (moving t.turn b status cause more whole) → IsTold steps' b
     → (over ≡ true → IsReplyKnown (moving t.turn b status cause more whole) → IsReplyKnown t.turn ⊎ (pending' ≢ [])) → Q (moving t.turn b status cause more whole)
     → Turning steps' k m' trail input pending' waiting over Q
-turned {steps} {k} {m} {trail} {input} old b status cause more whole Q {m'} {pending'} t back_is link_is told_is all alike router status_is cause_is in_pending answers shown knows q = record {
+turned {steps} {k} {m} {trail} {input} old b status cause more whole Q {m'} {pending'} t back_is link_is others told_is more_told unfailed all alike router status_is cause_is in_pending answers shown knows q = record {
   done = t.done;
   turn = moving t.turn b status cause more whole;
   rest = t.rest;
   holds = holds_as told_is refl refl refl refl refl refl refl alike.number alike.index
-      (holds_replied (moving t.turn b status cause more whole) more (record { index = refl; item = refl; plan = refl; looks = refl; picks = refl; spents = refl }) refl in_pending knows (own_same t.done t.turn (moving t.turn b status cause more whole) (ap (λ (n : ℕ). n ∷ []) link_is ∙ sym (ap links_of back_is))) t.holds);
+      (holds_others others (more_told (last_link t.done (moving t.turn b status cause more whole) old.link (ap (λ (n : ℕ). n ∷ []) link_is)))
+      (holds_replied (moving t.turn b status cause more whole) more (record { index = refl; item = refl; plan = refl; looks = refl; picks = refl; spents = refl }) refl in_pending knows (own_same t.done t.turn (moving t.turn b status cause more whole) (ap (λ (n : ℕ). n ∷ []) link_is ∙ sym (ap links_of back_is))) t.holds));
   sound = record { all = all; one = record { item = t.sound.one.item; answers = answers; shown = shown } };
   tied = record {
     index = t.tied.index ∙ sym alike.index;
@@ -89,6 +93,7 @@ turned {steps} {k} {m} {trail} {input} old b status cause more whole Q {m'} {pen
     backs = ap (λ (n : ℕ). n ∷ []) link_is ∙ sym (ap links_of back_is) ∙ t.tied.backs;
   };
   kept = t.kept;
+  unfailed = unfailed ∙ t.unfailed;
   pinned = alike.pinned ∙ t.pinned;
   rest_is = t.rest_is ∙ ap (λ (n : ℕ). drop n input) (sym alike.size);
   fits = subst (λ (n : ℕ). n ≤ length input) (sym alike.size) t.fits;
@@ -107,6 +112,7 @@ turning_forgot t = record {
   sound = t.sound;
   tied = t.tied;
   kept = t.kept;
+  unfailed = t.unfailed;
   pinned = t.pinned;
   rest_is = t.rest_is;
   fits = t.fits;
@@ -200,7 +206,8 @@ halted_gave {steps} {k} {m} {trail} {input} {pending} {waiting} {over} piece {m'
     x.sent.message ∙ ap (λ (l : List ℕ). l ++ x.sent.unsent) (sym (taken_more x.link.events (gave piece) ∙ append-nil (taken x.link.events))) in
     let is : IsSent k.entry k.peer x.r x.row b (moving u b u.status u.cause [] false) =
     longer_sent k.entry k.peer x.r x.row x.link u (moving u b u.status u.cause [] false) (gave piece) x.sent.unsent x.sent refl refl refl refl refl refl refl refl message in
-    turned x.link b u.status u.cause [] false (λ t. Unit {0}) (turning_forgot t) x.sent.back refl (told_elsewhere k.link m.link steps (gave piece) (away t))
+    turned x.link b u.status u.cause [] false (λ t. Unit {0}) (turning_forgot t) x.sent.back refl (elsewhere k.link steps ++ m.link ∷ []) (told_elsewhere k.link m.link steps (gave piece) (away t))
+    (λ one. more_links o.done (Some (moving u b u.status u.cause [] false)) m.link (elsewhere k.link steps) (subst (Contains (of_all backs_of o.done (Some (moving u b u.status u.cause [] false)))) x.number one)) (failures_happened k.link m.link steps (gave piece))
     (all_shown steps m.link (gave piece) k.entry k.peer o.done x.apart t.sound.all)
     alike router (status ∙ sym t.tied.status) (cause ∙ sym t.tied.cause) (sym (append-nil pending))
     (still laws x.back.reply k.entry k.peer x.r x.row x.link u piece x.content pending is x.exchanged.received x.passing)
@@ -415,7 +422,8 @@ opened_back_failed {steps} {k} {m} {trail} {input} {pending} {waiting} {over} ol
     let is : IsSent k.entry k.peer x.r x.row b v = sent_as k.entry k.peer x.r x.row x.link b u v x.sent refl refl refl refl refl refl refl refl refl in
     let shown : IsTold steps x.link = told_link steps u.back x.link x.sent.back t.sound.one.shown in
     let w : Turning (steps ++ failed m.link ∷ []) k m' trail input pending waiting over (IsExchanging k.entry k.peer m' pending o.done) =
-    turned x.link b u.status u.cause [] false (IsExchanging k.entry k.peer m' pending o.done) t x.sent.back refl (told_failed k.link m.link steps)
+    turned x.link b u.status u.cause [] false (IsExchanging k.entry k.peer m' pending o.done) t x.sent.back refl (elsewhere k.link steps ++ m.link ∷ []) (told_failed_elsewhere k.link m.link steps (away t))
+    (λ one. more_links o.done (Some v) m.link (elsewhere k.link steps) (subst (Contains (of_all backs_of o.done (Some v))) x.number one)) (failures_failed_elsewhere k.link m.link steps (away t))
     (all_failed steps m.link k.entry k.peer o.done x.apart t.sound.all)
     alike router (status ∙ sym t.tied.status) (cause ∙ sym t.tied.cause) (sym (append-nil pending))
     (on_its_way back.reply k.entry k.peer x.r x.row b v x.content pending is after.received passing)
@@ -465,7 +473,7 @@ opened_whole {steps} {k} {m} {trail} {input} {pending} {waiting} {over} done_is 
     let is : IsSent k.entry k.peer x.r x.row x.link v = sent_as k.entry k.peer x.r x.row x.link x.link u v x.sent refl refl refl refl refl refl refl refl refl in
     let shown : IsTold steps x.link = told_link steps u.back x.link x.sent.back t.sound.one.shown in
     let w : Turning steps k m trail input pending waiting over (λ (y : Turn). y.whole ≡ true) =
-    turned x.link x.link u.status u.cause [] true (λ (y : Turn). y.whole ≡ true) t x.sent.back refl refl t.sound.all
+    turned x.link x.link u.status u.cause [] true (λ (y : Turn). y.whole ≡ true) t x.sent.back refl (elsewhere k.link steps) refl (λ one h. h) refl t.sound.all
     (record { asked = refl; size = refl; issue = refl; pinned = refl; index = refl; number = refl }) refl (sym t.tied.status) (sym t.tied.cause) (sym (append-nil pending))
     (whole_answers x.back.reply e.reply k.entry k.peer x.r x.row x.link u x.content pending e.reply_is e.whole (subst (λ (s : BackState). IsFailing s x.link.faults) (ap (λ (y : BackView). y.state) same ∙ done_is.2) x.failing) is x.exchanged.received x.passing) shown
     (λ c d. inl (inr (x.r, x.link, x.sent.won.asked, x.sent.back, (e.reply, x.content, subst (Receives x.r.method (given x.link.events) x.content) e.reply_is x.exchanged.received, e.whole)))) refl in
@@ -541,7 +549,7 @@ opened_no_reply {steps} {k} {m} {trail} {input} {pending} {waiting} {over} c clo
     subst (IsOwnText 502 (closes u)) (sym (ap (λ (l : List ℕ). l ++ text) p.2)) (own_text_of m trail u 502 close text t.tied t.asked close_is own) in
     let shown : IsTold steps x.link = told_link steps u.back x.link x.sent.back t.sound.one.shown in
     let w : Turning steps k m' trail input pending' waiting over (λ (y : Turn). y.whole ≡ true) =
-    turned x.link x.link 502 (lost_cause c m.link) text true (λ (y : Turn). y.whole ≡ true) t x.sent.back refl refl t.sound.all alike router status cause
+    turned x.link x.link 502 (lost_cause c m.link) text true (λ (y : Turn). y.whole ≡ true) t x.sent.back refl (elsewhere k.link steps) refl (λ one h. h) refl t.sound.all alike router status cause
     (in_pending ∙ sym (ap (λ (l : List ℕ). l ++ text) p.4))
     (lost_answers c x.back k.entry k.peer x.r x.row x.link u m.link text x.content x.ended x.failed h received.0 x.ends_is x.fails_is x.number (subst (λ (s : BackState). IsFailing s x.link.faults) (ap (λ (y : BackView). y.state) same ∙ lost.2) x.failing) is own_is) shown (λ d e. inr (λ nothing. own_some 502 close text own (sym in_pending ∙ nothing))) refl in
     opened_turn Reply w (at_turn w)

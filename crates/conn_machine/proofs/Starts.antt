@@ -12,7 +12,7 @@ use Rattle.link_world.specs.Log.{came}
 use Rattle.conversation.specs.Steps.{Step, happened}
 use Rattle.conversation.specs.Asks.{IsItem}
 use Rattle.conversation.specs.Served.{IsHeadPart}
-use Rattle.conversation.proofs.Tellings.{told_happened}
+use Rattle.conversation.proofs.Tellings.{told_happened, failures_happened}
 use Rattle.conversation.proofs.Holdings.{holds_came, holds_forgot, ended_ends}
 use Rattle.conn_machine.specs.Parts.{Trail, TiedBy, Fits, IsFound, AtStage}
 use Rattle.conn_machine.specs.Reached.{Reached, Opened, PhaseHolds, ending_note, closed_by, trail_of, pending_of}
@@ -38,6 +38,7 @@ opened_came k m trail unpinned number index = record {
   sound = record { all = tt; one = tt };
   tied = subst (λ (b : Bool). TiedBy b m trail None) (sym unpinned) tt;
   kept = tt;
+  unfailed = failures_happened k.link k.link [] (came k.entry k.peer);
   stage = record { last_is = refl; unpinned = unpinned; rest_is = refl; none = refl };
 }
   where
@@ -61,7 +62,7 @@ pub reached_client : {steps : List Step} (d : Conn) → d.phase ≡ Over ByClien
     → Opened steps d.client d.current (trail_of d) d.input.items (pending_of d) d.notes.items d.over Head → Reached steps d
 reached_client {steps} d is over part o =
     reached_over d ByClient is o
-    (ended_ends (o.holds.closes over), o.stage.none, o.stage.last_is, o.kept, inl (subst IsHeadPart (whole ∙ sym o.stage.rest_is) (record { unfinished = part.unfinished; continues = part.continues })))
+    (ended_ends (o.holds.closes over), o.stage.none, o.stage.last_is, o.kept, inl (subst IsHeadPart (whole ∙ sym o.stage.rest_is) (record { unfinished = part.unfinished; continues = part.continues; room = part.room })))
   where
     whole : take 16384 d.input.items ≡ d.input.items
     whole = short_take d.input.items part.room
@@ -90,6 +91,7 @@ opened_found {k} {m} {trail} {input} asked n {m'} asked_is size pinned number in
   sound = o.sound;
   tied = subst (λ (b : Bool). TiedBy b m' trail o.last) (sym (pinned ∙ o.stage.unpinned)) tt;
   kept = o.kept;
+  unfailed = o.unfailed;
   stage = record {
     last_is = o.stage.last_is;
     unpinned = pinned ∙ o.stage.unpinned;
@@ -137,7 +139,7 @@ reached_reserved {steps} {c} input looks picks backs notes i l p b n r = record 
 
     by : (q : Phase) → PhaseHolds q steps c r.done r.last r.rest r.left r.kept.next
         → PhaseHolds q steps (record c { input = input; looks = looks; picks = picks; backs = backs; notes = notes }) r.done r.last r.rest r.left r.kept.next
-    by Open h = (h.0, h.1, h.2, subst (λ (x : List ℕ). AtStage c.stage c.client c.current x (pending_of c) r.done r.last r.rest) (sym i) h.3)
+    by Open h = (h.0, h.1, h.2, subst (λ (x : List ℕ). AtStage c.stage c.client c.current x (pending_of c) r.done r.last r.rest) (sym i) h.3, h.4)
     by Broken h = tt
     by (Over cause) h = h
     by (Told cause) h = h
@@ -164,7 +166,7 @@ reached_rested {steps} {c} input out looks picks backs notes i o l p b n r =
         same = ap (λ (l : List ℕ). drop d.sent l) o
 
         by : (q : Phase) → PhaseHolds q steps d r.done r.last r.rest r.left r.kept.next → PhaseHolds q steps (record d { out = out }) r.done r.last r.rest r.left r.kept.next
-        by Open h = (h.0, h.1 ∙ sym same, h.2, subst (λ (x : List ℕ). AtStage d.stage d.client d.current d.input.items x r.done r.last r.rest) (sym same) h.3)
+        by Open h = (h.0, h.1 ∙ sym same, h.2, subst (λ (x : List ℕ). AtStage d.stage d.client d.current d.input.items x r.done r.last r.rest) (sym same) h.3, h.4)
         by Broken h = tt
         by (Over cause) h = h
         by (Told cause) h = h

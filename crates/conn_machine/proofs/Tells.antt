@@ -1,18 +1,19 @@
 -- What a machine's notes are, and what telling one leaves.
 use Rattle.std.proofs.Common.{length, get_or, drop, ◌≡◌, ◌≢◌, ℕ, ◌<◌, List, [], ◌∷◌, ◌++◌, Option, Some, None, refl, sym, ◌∙◌, ap, subst, arith, Bool, true, false, Vec, vec_len, ◌==◌, inl, inr}
-use Rattle.std.specs.List.{flat_map, AllByRecursion}
+use Rattle.std.specs.List.{flat_map, AllByRecursion, Contains}
 use Rattle.std.specs.declared.alloc.Global.{Global}
 use Rattle.std.proofs.lemmas.List.{append-nil, nil_from_length}
 use Rattle.std.proofs.lemmas.Bool.Decides.{nat_tests}
 use Rattle.link_world.specs.declared.note.Note.{Note}
 use Rattle.link_world.specs.declared.note.EndCause.{EndCause}
 use Rattle.link_world.specs.Log.{noted, notes}
-use Rattle.conversation.specs.Steps.{Step, happened, history, failures, stops}
+use Rattle.conversation.specs.Plans.{Plan}
+use Rattle.conversation.specs.Steps.{Step, happened, history, failures, stops, pins}
 use Rattle.conversation.specs.Turns.{Turn}
-use Rattle.conversation.specs.Served.{of_last, notes_of, EndHolds, end_note}
+use Rattle.conversation.specs.Served.{of_last, notes_of, EndHolds, end_note, Served}
 use Rattle.conversation.specs.Holding.{told, Holds, Sound}
-use Rattle.conversation.proofs.Tellings.{told_happened, sound_happened}
-use Rattle.conversation.proofs.Holdings.{all_both, holds_told, holds_closed, holds_ended, end_told}
+use Rattle.conversation.proofs.Tellings.{told_happened, failures_happened, sound_happened}
+use Rattle.conversation.proofs.Holdings.{all_both, holds_told, holds_closed, holds_ended, end_told, served}
 use Rattle.conn_machine.specs.Parts.{Trail, TiedBy, note_by}
 use Rattle.conn_machine.specs.Reached.{Reached, PhaseHolds, ending_note, closed_by, trail_of, open_over, IsUnended, IsRequestNote, EndsBy}
 use Rattle.conn_machine.specs.declared.parts.Client.{Client}
@@ -42,7 +43,7 @@ reached_told {steps} {c} v note is r = record {
   where
     by : (q : Phase) → PhaseHolds q steps c r.done r.last r.rest r.left r.kept.next
         → PhaseHolds q (steps ++ happened c.client.link (noted note) ∷ []) (record c { notes = v }) r.done r.last r.rest r.left r.kept.next
-    by Open h = h
+    by Open h = (h.0, h.1, h.2, h.3, failures_happened c.client.link c.client.link steps (noted note) ∙ h.4)
     by Broken h = tt
     by (Over cause) h = end_told cause c.client.link steps note r.done r.last r.rest r.left h
     by (Told cause) h = (h.0, end_told cause c.client.link steps note r.done r.last r.rest r.left h.1)
@@ -209,3 +210,12 @@ unended_some c b is fails = unended_waiting c (some_items c.notes b is fails)
 pub ends_told : (p : Phase) (c cause : EndCause) → p ≡ Over c → EndsBy cause p → EndsBy cause (Told c)
 ends_told p c cause is (inl same) = let e : Over c ≡ Over cause = sym is ∙ same in let f : c ≡ cause = cc in inr (ap (λ (x : EndCause). let y : Phase = Told x in y) f)
 ends_told p c cause is (inr other) = absurd (let e : Over c ≡ Told cause = sym is ∙ other in let f : ⊥ = cc in f)
+
+-- a machine that has told all of its notes and its end was served
+pub finished_served : {steps : List Step} {c : Conn} (plans : List Plan) (cause : EndCause) → c.notes.items ≡ [] → c.phase ≡ Told cause → Reached steps c → AllByRecursion (Contains plans) (pins steps)
+    → Served plans c.client.link c.client.entry c.client.peer steps (failures c.client.link steps ≢ []) (stops steps ≢ [])
+finished_served {steps} {c} plans cause none is r held =
+    let h : PhaseHolds (Told cause) steps c r.done r.last r.rest r.left r.kept.next = subst (λ (p : Phase). PhaseHolds p steps c r.done r.last r.rest r.left r.kept.next) is r.phase in
+    served steps plans c.client.link c.client.entry c.client.peer r.done r.last r.rest r.left c.notes.items (open_over c.phase c.over) c.current.number r.kept.next cause none
+    (holds_as refl refl refl refl refl (sym (ap (λ (b : Bool). closed_by b c.client.link r.last) h.0)) (sym (ap (ending_note c.client.link) is)) refl refl refl r.kept.holds)
+    r.kept.sound h.1 held

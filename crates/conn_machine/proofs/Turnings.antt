@@ -25,8 +25,8 @@ use Rattle.conversation.specs.Asks.{IsItem, IsHead, judged, Ask, asks, faulty, u
 use Rattle.conversation.specs.Turns.{Stage as TurnStage, unrouted, routed, Turn, note_of, closes, end_of, ends_after, Routes, Answers, AnswersBy, AnswersOwn, IsOwnText, IsUndecided, IsUnrouted}
 use Rattle.conversation.specs.Served.{of_last, notes_of, IsKept, EndedWithin, EndHolds, IsAnswered}
 use Rattle.conversation.specs.Holding.{told, Holds, Sound, EndedIn}
-use Rattle.conversation.proofs.Tellings.{told_pinned, sound_pinned}
-use Rattle.conversation.proofs.Holdings.{all_both, cut_at, holds_pinned, holds_replied, holds_done, ended_ends, fresh_turn}
+use Rattle.conversation.proofs.Tellings.{told_pinned, failures_quiet, sound_pinned}
+use Rattle.conversation.proofs.Holdings.{all_both, cut_at, holds_pinned, holds_replied, own_same, holds_done, ended_ends, fresh_turn}
 use Rattle.conn_machine.specs.Parts.{Trail, Tied, TiedBy, Fits, refused_status, FindsRow, IsRoute, issue_plan, end_by, note_by, AtStage, AtTurn, IsAim, IsOpenAt, IsUnroutedAt, IsAimedAt}
 use Rattle.conn_machine.specs.Reached.{Reached, Opened, PhaseHolds, ending_note, closed_by, trail_of, pending_of, open_over}
 use Rattle.conn_machine.specs.declared.pins.Routed.{Routed}
@@ -52,6 +52,7 @@ pub record Turning (steps : List Step) (k : Client) (m : Current) (trail : Trail
   pub sound : Sound steps k.entry k.peer done (Some turn)
   pub tied : Tied m trail turn
   pub kept : AllByRecursion IsKept done
+  pub unfailed : failures k.link steps ≡ []
   pub pinned : m.pinned ≡ true
   pub rest_is : rest ≡ drop m.size input
   pub fits : m.size ≤ length input
@@ -68,6 +69,7 @@ turning {steps} {k} {m} {trail} o h = record {
   sound = subst (λ (l : Option Turn). Sound steps k.entry k.peer o.done l) h.last_is o.sound;
   tied = subst (λ (l : Option Turn). TiedBy true m trail l) h.last_is (subst (λ (b : Bool). TiedBy b m trail o.last) h.pinned o.tied);
   kept = o.kept;
+  unfailed = o.unfailed;
   pinned = h.pinned;
   rest_is = h.rest_is;
   fits = h.fits;
@@ -90,6 +92,7 @@ opened_turn {k} {m} {trail} at t stage = record {
   sound = t.sound;
   tied = subst (λ (b : Bool). TiedBy b m trail (Some t.turn)) (sym t.pinned) t.tied;
   kept = t.kept;
+  unfailed = t.unfailed;
   stage = stage;
 }
 
@@ -147,6 +150,7 @@ opened_pinned {steps} {k} {m} {trail} {input} {pending} {waiting} {over} p {m'} 
         backs = sym f.backs;
       };
       kept = o.kept;
+      unfailed = failures_quiet k.link steps (pinned p) refl ∙ o.unfailed;
       pinned = f.pinned;
       rest_is = ap (λ (n : ℕ). drop n input) (sym f.size);
       fits = subst (λ (n : ℕ). n ≤ length input) (sym f.size) o.stage.fits;
@@ -205,7 +209,7 @@ opened_won {steps} {k} {m} {trail} {input} {pending} {waiting} {over} row aim {m
       turn = v;
       rest = t.rest;
       holds = holds_as refl refl refl refl refl refl refl refl alike.number alike.index
-          (holds_replied v [] (record { index = refl; item = refl; plan = refl; looks = refl; picks = refl; spents = refl }) (sym (append-nil u.reply)) (sym (append-nil pending)) (λ c d. inl d) (λ d. d) t.holds);
+          (holds_replied v [] (record { index = refl; item = refl; plan = refl; looks = refl; picks = refl; spents = refl }) (sym (append-nil u.reply)) (sym (append-nil pending)) (λ c d. inl d) (own_same t.done u v refl) t.holds);
       sound = record { all = t.sound.all; one = record { item = t.sound.one.item; answers = subst (λ (c : Cause). AnswersBy c k.entry k.peer v) (sym t.has.undecided.cause) (routed, undecided); shown = t.sound.one.shown } };
       tied = record {
         index = t.tied.index ∙ sym alike.index;
@@ -218,6 +222,7 @@ opened_won {steps} {k} {m} {trail} {input} {pending} {waiting} {over} row aim {m
         backs = t.tied.backs;
       };
       kept = t.kept;
+      unfailed = t.unfailed;
       pinned = alike.pinned ∙ t.pinned;
       rest_is = t.rest_is ∙ ap (λ (n : ℕ). drop n input) (sym alike.size);
       fits = subst (λ (n : ℕ). n ≤ length input) (sym alike.size) t.fits;
@@ -248,7 +253,7 @@ opened_replied {steps} {k} {m} {trail} {input} {pending} {waiting} {over} status
       turn = v;
       rest = t.rest;
       holds = holds_as refl refl refl refl refl refl refl refl alike.number alike.index
-          (holds_replied v text (record { index = refl; item = refl; plan = refl; looks = refl; picks = refl; spents = refl }) (sym (ap (λ (l : List ℕ). l ++ text) t.has.undecided.reply)) (in_pending ∙ sym (ap (λ (l : List ℕ). l ++ text) t.has.none)) (λ c d. inr (λ none. some (sym in_pending ∙ none))) (λ d. d) t.holds);
+          (holds_replied v text (record { index = refl; item = refl; plan = refl; looks = refl; picks = refl; spents = refl }) (sym (ap (λ (l : List ℕ). l ++ text) t.has.undecided.reply)) (in_pending ∙ sym (ap (λ (l : List ℕ). l ++ text) t.has.none)) (λ c d. inr (λ none. some (sym in_pending ∙ none))) (own_same t.done u v refl) t.holds);
       sound = record { all = t.sound.all; one = record { item = t.sound.one.item; answers = answers; shown = t.sound.one.shown } };
       tied = record {
         index = t.tied.index ∙ sym alike.index;
@@ -261,6 +266,7 @@ opened_replied {steps} {k} {m} {trail} {input} {pending} {waiting} {over} status
         backs = t.tied.backs;
       };
       kept = t.kept;
+      unfailed = t.unfailed;
       pinned = alike.pinned ∙ t.pinned;
       rest_is = t.rest_is ∙ ap (λ (n : ℕ). drop n input) (sym alike.size);
       fits = subst (λ (n : ℕ). n ≤ length input) (sym alike.size) t.fits;
@@ -464,6 +470,7 @@ reached_on {steps} {c} d is at index h none end goes_on o =
       sound = left_sound h t;
       tied = unpinned_tied d.current.pinned d.current (trail_of d) h.unpinned;
       kept = all_both IsKept t.done (t.turn ∷ []) t.kept (kept, tt);
+      unfailed = subst (λ (k : Client). failures k.link steps ≡ []) (sym h.client) t.unfailed;
       stage = subst (λ (s : Stage). AtStage s d.client d.current d.input.items (pending_of d) (t.done ++ t.turn ∷ []) None d.input.items) (sym at) (record { last_is = refl; unpinned = h.unpinned; rest_is = refl; none = h.none });
     })
 

@@ -15,7 +15,7 @@ use Rattle.conversation.proofs.Holdings.{ended_last}
 use Rattle.conversation.specs.Turns.{Stage as TurnStage, routed, down, up, refused, picked, Turn, closes, is_up, node_of, IsAt, IsUndecided, IsOwnText, AnswersBy, AnswersOwn}
 use Rattle.conversation.specs.Served.{looks_of, picks_of, spents_of}
 use Rattle.conversation.specs.Holding.{Told, Holds, Sound}
-use Rattle.conversation.proofs.Tellings.{told_looked, told_drew, told_spent, sound_looked, sound_drew, sound_spent}
+use Rattle.conversation.proofs.Tellings.{told_looked, told_drew, told_spent, failures_quiet, sound_looked, sound_drew, sound_spent}
 use Rattle.conn_machine.specs.Parts.{Trail, IsAim, IsOpenAt, IsAimedAt, end_by}
 use Rattle.conn_machine.specs.Reached.{Opened}
 use Rattle.conn_machine.specs.declared.parts.Aim.{Aim}
@@ -39,6 +39,7 @@ holds_looked {done} l none r = record {
   picked = r.picked;
   refused = r.refused;
   own = r.own;
+  links = r.links;
   rising = r.rising;
   numbered = r.numbered;
   numbered_last = r.numbered_last;
@@ -60,6 +61,7 @@ holds_drew {done} p none r = record {
   picked = ap (λ (x : List NodePick). x ++ p ∷ []) (r.picked ∙ ap (λ (x : List NodePick). flat_map picks_of done ++ x) none ∙ append-nil (flat_map picks_of done));
   refused = r.refused;
   own = r.own;
+  links = r.links;
   rising = r.rising;
   numbered = r.numbered;
   numbered_last = r.numbered_last;
@@ -81,6 +83,7 @@ holds_spent {done} n none r = record {
   picked = r.picked;
   refused = ap (λ (x : List ℕ). x ++ n ∷ []) (r.refused ∙ ap (λ (x : List ℕ). flat_map spents_of done ++ x) none ∙ append-nil (flat_map spents_of done));
   own = r.own;
+  links = r.links;
   rising = r.rising;
   numbered = r.numbered;
   numbered_last = r.numbered_last;
@@ -137,6 +140,7 @@ looked_turn {steps} {k} {m} {trail} {pending} b l {trail'} in_looks in_picks in_
         backs = t.tied.backs ∙ sym in_backs;
       };
       kept = t.kept;
+      unfailed = failures_quiet k.link steps (looked l) refl ∙ t.unfailed;
       pinned = t.pinned;
       rest_is = t.rest_is;
       fits = t.fits;
@@ -206,6 +210,7 @@ opened_drew {steps} {k} {m} {trail} {input} {pending} {waiting} {over} p {trail'
         backs = t.tied.backs ∙ sym in_backs;
       };
       kept = t.kept;
+      unfailed = failures_quiet k.link steps (drew p) refl ∙ t.unfailed;
       pinned = t.pinned;
       rest_is = t.rest_is;
       fits = t.fits;
@@ -249,6 +254,7 @@ opened_spent {steps} {k} {m} {trail} {input} {pending} {waiting} {over} n wants 
         backs = t.tied.backs;
       };
       kept = t.kept;
+      unfailed = failures_quiet k.link steps (spent n) refl ∙ t.unfailed;
       pinned = t.pinned;
       rest_is = t.rest_is;
       fits = t.fits;
@@ -268,6 +274,7 @@ open_of t = record {
   sound = t.sound;
   tied = t.tied;
   kept = t.kept;
+  unfailed = t.unfailed;
   pinned = t.pinned;
   rest_is = t.rest_is;
   fits = t.fits;

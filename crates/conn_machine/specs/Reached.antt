@@ -55,7 +55,7 @@ pub record Kept (steps : List Step) (k : Client) (m : Current) (trail : Trail) (
   pub sound : Sound steps k.entry k.peer done last
   pub tied : TiedBy m.pinned m trail last
 
--- what an open machine keeps besides: nothing of the bytes is lost
+-- what an open machine keeps besides: nothing of the bytes is lost, and the client's link didn't fail
 pub record Opened (steps : List Step) (k : Client) (m : Current) (trail : Trail) (input pending : List ℕ) (waiting : List Note) (over : Bool) (at : Stage) : Type 0 where
   pub done : List Turn
   pub last : Option Turn
@@ -64,13 +64,15 @@ pub record Opened (steps : List Step) (k : Client) (m : Current) (trail : Trail)
   pub sound : Sound steps k.entry k.peer done last
   pub tied : TiedBy m.pinned m trail last
   pub kept : AllByRecursion IsKept done
+  pub unfailed : failures k.link steps ≡ []
   pub stage : AtStage at k m input pending done last rest
 
--- While it is open the machine stores what was read and not answered, and what of the replies was not taken. Broken it
--- may not.
+-- While it is open the machine stores what was read and not answered, and what of the replies was not taken, and no fault
+-- of the client's link was told. Broken it may not.
 abbrev pub PhaseHolds : Phase → List Step → Conn → List Turn → Option Turn → (rest left : List ℕ) → (next : ℕ) → Type 0
 PhaseHolds Open steps c done last rest left next =
     (next ≡ c.current.index) × (left ≡ pending_of c) × AllByRecursion IsKept done × AtStage c.stage c.client c.current c.input.items (pending_of c) done last rest
+    × (failures c.client.link steps ≡ [])
 PhaseHolds Broken steps c done last rest left next = Unit {0}
 PhaseHolds (Over cause) steps c done last rest left next =
     EndHolds cause (history c.client.link steps) done last rest left (failures c.client.link steps ≢ []) (stops steps ≢ [])

@@ -3,6 +3,7 @@ use Rattle.std.proofs.Common.{zero, suc, take, drop, length, ◌≡◌, ◌≢�
 use Rattle.std.specs.List.{flat_map, AllByRecursion, Contains}
 use Rattle.std.proofs.lemmas.List.{append-nil, append_assoc, length-append}
 use Rattle.std.proofs.lemmas.List.Concat.{flat_map-append}
+use Rattle.std.proofs.lemmas.List.Elements.{Contains-append_left, Contains-push}
 use Rattle.ip_net.specs.declared.ip.Ip.{Ip}
 use Rattle.link_world.specs.declared.note.Note.{Note}
 use Rattle.link_world.specs.declared.note.EndCause.{EndCause}
@@ -112,6 +113,7 @@ event {t} {link} {entry} {peer} {done} {last} {rest} {left} e {rest'} {left'} {w
   picked = r.picked;
   refused = r.refused;
   own = r.own;
+  links = r.links;
   rising = r.rising;
   numbered = r.numbered;
   numbered_last = r.numbered_last;
@@ -120,7 +122,7 @@ event {t} {link} {entry} {peer} {done} {last} {rest} {left} e {rest'} {left'} {w
 }
 
 -- a client came
-pub holds_came : (link : ℕ) (entry : List ℕ) (peer : Ip) → Holds (record { events = came entry peer ∷ []; pins = []; looks = []; picks = []; spents = [] }) link entry peer [] None [] [] [] [] [] false 0 1
+pub holds_came : (link : ℕ) (entry : List ℕ) (peer : Ip) → Holds (record { events = came entry peer ∷ []; others = []; pins = []; looks = []; picks = []; spents = [] }) link entry peer [] None [] [] [] [] [] false 0 1
 holds_came link entry peer = record {
   arrived = ([], refl);
   reads = refl;
@@ -132,6 +134,7 @@ holds_came link entry peer = record {
   picked = refl;
   refused = refl;
   own = tt;
+  links = tt;
   rising = omega arith;
   numbered = refl;
   numbered_last = tt;
@@ -168,6 +171,7 @@ holds_forgot r = record {
   picked = r.picked;
   refused = r.refused;
   own = r.own;
+  links = r.links;
   rising = r.rising;
   numbered = r.numbered;
   numbered_last = r.numbered_last;
@@ -274,6 +278,7 @@ holds_pinned {t} {link} {entry} {peer} {done} {rest} {left} {number} {next} item
   picked = add_last picks_of done (fresh_turn next item ask p) t.picks r.picked refl;
   refused = add_last spents_of done (fresh_turn next item ask p) t.spents r.refused refl;
   own = r.own;
+  links = r.links;
   rising = rises_more 0 t.pins number p r.rising le;
   numbered = r.numbered;
   numbered_last = refl;
@@ -295,21 +300,71 @@ distinct_push : (ns : List ℕ) (n : ℕ) → AllByRecursion (λ (m : ℕ). m �
 distinct_push [] n other d = (tt, tt)
 distinct_push (m ∷ ns) n other d = (all_both (λ (k : ℕ). k ≢ m) ns (n ∷ []) d.0 ((λ (is : n ≡ m). other.0 (sym is)), tt), distinct_push ns n other.1 d.1)
 
+-- with the last request the links of all stay apart, and none of them is lost
+pub record KeepsLinks (done : List Turn) (u v : Turn) : Type 0 where
+  pub own : AreDistinct (of_all backs_of done (Some u)) → AreDistinct (of_all backs_of done (Some v))
+  pub links : (l : ℕ) → Contains (of_all backs_of done (Some u)) l → Contains (of_all backs_of done (Some v)) l
+
 -- the last request is on the link that it was on
-pub own_same : (done : List Turn) (u v : Turn) → links_of v.back ≡ links_of u.back → AreDistinct (of_all backs_of done (Some u)) → AreDistinct (of_all backs_of done (Some v))
-own_same done u v is d = subst AreDistinct (ap (λ (l : List ℕ). flat_map backs_of done ++ l) (sym is)) d
+pub own_same : (done : List Turn) (u v : Turn) → links_of v.back ≡ links_of u.back → KeepsLinks done u v
+own_same done u v is =
+    let same : of_all backs_of done (Some u) ≡ of_all backs_of done (Some v) = ap (λ (l : List ℕ). flat_map backs_of done ++ l) (sym is) in
+    record {
+      own = λ d. subst AreDistinct same d;
+      links = λ l h. subst (λ (x : List ℕ). Contains x l) same h;
+    }
 
 -- it is on a link that none of the others was on
-pub own_new : (done : List Turn) (u v : Turn) (link : ℕ) → links_of u.back ≡ [] → links_of v.back ≡ link ∷ [] → AllByRecursion (λ (n : ℕ). n ≢ link) (flat_map backs_of done)
-    → AreDistinct (of_all backs_of done (Some u)) → AreDistinct (of_all backs_of done (Some v))
-own_new done u v link none one other d =
-    subst AreDistinct (ap (λ (l : List ℕ). flat_map backs_of done ++ l) (sym one))
-    (distinct_push (flat_map backs_of done) link other (subst AreDistinct (ap (λ (l : List ℕ). flat_map backs_of done ++ l) none ∙ append-nil (flat_map backs_of done)) d))
+pub own_new : (done : List Turn) (u v : Turn) (link : ℕ) → links_of u.back ≡ [] → links_of v.back ≡ link ∷ [] → AllByRecursion (λ (n : ℕ). n ≢ link) (flat_map backs_of done) → KeepsLinks done u v
+own_new done u v link none one other =
+    let before : of_all backs_of done (Some u) ≡ flat_map backs_of done = ap (λ (l : List ℕ). flat_map backs_of done ++ l) none ∙ append-nil (flat_map backs_of done) in
+    let after : flat_map backs_of done ++ link ∷ [] ≡ of_all backs_of done (Some v) = ap (λ (l : List ℕ). flat_map backs_of done ++ l) (sym one) in
+    record {
+      own = λ d. subst AreDistinct after (distinct_push (flat_map backs_of done) link other (subst AreDistinct before d));
+      links = λ l h. subst (λ (x : List ℕ). Contains x l) after (Contains-append_left (flat_map backs_of done) (link ∷ []) l (subst (λ (x : List ℕ). Contains x l) before h));
+    }
+
+all_by : {X : Type 0} (P Q : X → Type 0) (xs : List X) → ((x : X) → P x → Q x) → AllByRecursion P xs → AllByRecursion Q xs
+all_by P Q [] f h = tt
+all_by P Q (x ∷ xs) f h = (f x h.0, all_by P Q xs f h.1)
+
+-- the last request is on its link
+pub last_link : (done : List Turn) (v : Turn) (link : ℕ) → links_of v.back ≡ link ∷ [] → Contains (of_all backs_of done (Some v)) link
+last_link done v link one = subst (λ (l : List ℕ). Contains (flat_map backs_of done ++ l) link) (sym one) (Contains-push (flat_map backs_of done) link)
+
+-- one more link of requests is told of
+pub more_links : (done : List Turn) (last : Option Turn) (link : ℕ) (others : List ℕ) → Contains (of_all backs_of done last) link
+    → AllByRecursion (Contains (of_all backs_of done last)) others → AllByRecursion (Contains (of_all backs_of done last)) (others ++ link ∷ [])
+more_links done last link others one h = all_both (Contains (of_all backs_of done last)) others (link ∷ []) h (one, tt)
+
+-- other links are told of
+pub holds_others : {t : Told} {link : ℕ} {entry : List ℕ} {peer : Ip} {done : List Turn} {last : Option Turn} {rest left : List ℕ} {waiting closed ending : List Note} {over : Bool} {number next : ℕ}
+    (others : List ℕ) → (AllByRecursion (Contains (of_all backs_of done last)) t.others → AllByRecursion (Contains (of_all backs_of done last)) others)
+    → Holds t link entry peer done last rest left waiting closed ending over number next
+    → Holds (record t { others = others }) link entry peer done last rest left waiting closed ending over number next
+holds_others others more r = record {
+  arrived = r.arrived;
+  reads = r.reads;
+  spells = r.spells;
+  covers = r.covers;
+  noted = r.noted;
+  pinned = r.pinned;
+  looked = r.looked;
+  picked = r.picked;
+  refused = r.refused;
+  own = r.own;
+  links = more r.links;
+  rising = r.rising;
+  numbered = r.numbered;
+  numbered_last = r.numbered_last;
+  whole = r.whole;
+  closes = r.closes;
+}
 
 -- the last request's reply goes on
 pub holds_replied : {t : Told} {link : ℕ} {entry : List ℕ} {peer : Ip} {done : List Turn} {u : Turn} {rest left : List ℕ} {waiting closed ending : List Note} {over : Bool} {number next : ℕ}
     (v : Turn) (more : List ℕ) {left' : List ℕ} → SameTurn u v → v.reply ≡ u.reply ++ more → left' ≡ left ++ more → (over ≡ true → IsReplyKnown v → IsReplyKnown u ⊎ (left' ≢ []))
-    → (AreDistinct (of_all backs_of done (Some u)) → AreDistinct (of_all backs_of done (Some v)))
+    → KeepsLinks done u v
     → Holds t link entry peer done (Some u) rest left waiting closed ending over number next
     → Holds t link entry peer done (Some v) rest left' waiting closed ending over number next
 holds_replied {t} {link} {entry} {peer} {done} {u} {rest} {left} v more {left'} same in_reply in_left decides own r = record {
@@ -322,7 +377,8 @@ holds_replied {t} {link} {entry} {peer} {done} {u} {rest} {left} v more {left'} 
   looked = r.looked ∙ ap (λ (l : List Look). flat_map looks_of done ++ l) (sym same.looks);
   picked = r.picked ∙ ap (λ (l : List NodePick). flat_map picks_of done ++ l) (sym same.picks);
   refused = r.refused ∙ ap (λ (l : List ℕ). flat_map spents_of done ++ l) (sym same.spents);
-  own = own r.own;
+  own = own.own r.own;
+  links = all_by (Contains (of_all backs_of done (Some u))) (Contains (of_all backs_of done (Some v))) t.others own.links r.links;
   rising = r.rising;
   numbered = r.numbered;
   numbered_last = same.index ∙ r.numbered_last;
@@ -365,6 +421,7 @@ holds_done {t} {link} {done} {u} {rest} {left} {waiting} {next} whole none r = r
   picked = close_list picks_of done u t.picks r.picked;
   refused = close_list spents_of done u t.spents r.refused;
   own = subst AreDistinct (close_list backs_of done u (of_all backs_of done (Some u)) refl) r.own;
+  links = subst (λ (l : List ℕ). AllByRecursion (Contains l) t.others) (close_list backs_of done u (of_all backs_of done (Some u)) refl) r.links;
   rising = r.rising;
   numbered = numbered_more 1 done next u r.numbered r.numbered_last;
   numbered_last = tt;
@@ -434,6 +491,7 @@ served steps plans link entry peer done last rest left waiting over number next 
   picked = r.picked;
   refused = r.refused;
   own = r.own;
+  links = r.links;
   published = held;
   rising = (number, r.rising);
   numbered = (next, r.numbered, r.numbered_last);

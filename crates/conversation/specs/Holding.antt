@@ -1,26 +1,27 @@
 -- What a machine keeps true of the steps that it was told, in every phase.
 use Rattle.std.specs.Prelude.{◌≡◌, ℕ, ◌<◌, ◌⊎◌, Bool, true, List, [], ◌∷◌, ◌++◌, length, Option}
-use Rattle.std.specs.List.{flat_map, AllByRecursion}
+use Rattle.std.specs.List.{flat_map, AllByRecursion, Contains}
 use Rattle.ip_net.specs.declared.ip.Ip.{Ip}
 use Rattle.link_world.specs.Log.{LinkEvent, came, gave_end, given, taken, notes}
 use Rattle.link_world.specs.declared.note.Note.{Note}
 use Rattle.link_world.specs.declared.note.Look.{Look}
 use Rattle.link_world.specs.declared.note.NodePick.{NodePick}
 use Rattle.conversation.specs.Plans.{Plan}
-use Rattle.conversation.specs.Steps.{Step, history, pins, looks, picks, spents}
+use Rattle.conversation.specs.Steps.{Step, history, elsewhere, pins, looks, picks, spents}
 use Rattle.conversation.specs.Turns.{Turn, HasAnswer}
 use Rattle.conversation.specs.Served.{of_all, item_of, reply_of, pin_of, looks_of, picks_of, spents_of, backs_of, notes_of, IfLast, AreDistinct, AreNumbered, Rises, IsAnswered, IsWhole, TookReplies}
 
--- what the steps tell of the client's link and of the choices
+-- what the steps tell of the client's link, of other links and of the choices
 pub record Told : Type 0 where
   pub events : List LinkEvent
+  pub others : List ℕ
   pub pins : List Plan
   pub looks : List Look
   pub picks : List NodePick
   pub spents : List ℕ
 
 abbrev pub told : ℕ → List Step → Told
-told link steps = record { events = history link steps; pins = pins steps; looks = looks steps; picks = picks steps; spents = spents steps }
+told link steps = record { events = history link steps; others = elsewhere link steps; pins = pins steps; looks = looks steps; picks = picks steps; spents = spents steps }
 
 -- all of its reply is known: it is spelled whole, or its server gave a whole one
 abbrev pub IsReplyKnown : Turn → Type 0
@@ -40,7 +41,8 @@ pub record EndedIn (events : List LinkEvent) (done : List Turn) (last : Option T
   pub untaken : IfLast (λ t. IsReplyKnown t → IsUntaken (taken before) done t) last
 
 -- The client's bytes are these requests and this rest; what it took are their replies but for what is left, which is of
--- the last; their notes are told or wait, but for that of the last, of which `closed` is what is told or waits.
+-- the last; their notes are told or wait, but for that of the last, of which `closed` is what is told or waits. No link is
+-- told of but the client's and those that these requests were sent on.
 pub record Holds (t : Told) (link : ℕ) (entry : List ℕ) (peer : Ip) (done : List Turn) (last : Option Turn) (rest left : List ℕ) (waiting closed ending : List Note) (over : Bool) (number next : ℕ) : Type 0 where
   pub arrived : (more : List LinkEvent) × (t.events ≡ came entry peer ∷ more)
   pub reads : given t.events ≡ of_all item_of done last ++ rest
@@ -52,6 +54,7 @@ pub record Holds (t : Told) (link : ℕ) (entry : List ℕ) (peer : Ip) (done : 
   pub picked : t.picks ≡ of_all picks_of done last
   pub refused : t.spents ≡ of_all spents_of done last
   pub own : AreDistinct (of_all backs_of done last)
+  pub links : AllByRecursion (Contains (of_all backs_of done last)) t.others
   pub rising : Rises 0 t.pins number
   pub numbered : AreNumbered 1 done next
   pub numbered_last : IfLast (λ u. u.index ≡ next) last

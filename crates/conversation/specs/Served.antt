@@ -17,8 +17,8 @@ use Rattle.link_world.specs.declared.note.Cause.TheVariants.{Passed}
 use Rattle.link_world.specs.declared.note.EndCause.{EndCause}
 use Rattle.link_world.specs.declared.note.EndCause.TheVariants.{Client, ClientFailed, Asked, Refused, Unread, Idle, Count, Cut, CutLate, Stopped, Memory}
 use Rattle.conversation.specs.Plans.{Plan}
-use Rattle.conversation.specs.Steps.{Step, history, pins, looks, picks, spents}
-use Rattle.conversation.specs.Asks.{IsItem, asks, line_limit}
+use Rattle.conversation.specs.Steps.{Step, history, elsewhere, pins, looks, picks, spents}
+use Rattle.conversation.specs.Asks.{IsItem, asks, head_limit, line_limit}
 use Rattle.conversation.specs.Turns.{BackLink, Turn, links_of, note_of, end_of, closes, Answers, IsShown}
 
 -- a list of each request, and of a last one where there is one
@@ -113,10 +113,11 @@ pub record IsCutBy (link : ℕ) (t : Turn) : Type 0 where
   -- all of it is spelled for the client
   pub text : t.reply ≡ reply_text answer request.version (closes t) ++ content
 
--- the bytes are a part of a head, of which more has to come
+-- the bytes are a part of a head, of which more has to come and for which there is room
 pub record IsHeadPart (rest : List ℕ) : Type 0 where
   pub unfinished : ¬ (HasHead line_limit rest)
   pub continues : MayBecomeRequest rest
+  pub room : length rest < head_limit
 
 -- The client ended while the last of these requests was served: by then it had taken the whole replies of the others, and
 -- not all of this one's.
@@ -172,6 +173,8 @@ pub record Served (plans : List Plan) (link : ℕ) (entry : List ℕ) (peer : Ip
   pub refused : spents steps ≡ of_all spents_of done last
   -- no two requests are sent on one link
   pub own : AreDistinct (of_all backs_of done last)
+  -- no link is told of but the client's and those that these requests were sent on
+  pub links : AllByRecursion (Contains (of_all backs_of done last)) (elsewhere link steps)
   pub published : AllByRecursion (Contains plans) (pins steps)
   pub rising : (to : ℕ) × Rises 0 (pins steps) to
   pub numbered : (next : ℕ) × AreNumbered 1 done next × IfLast (λ t. t.index ≡ next) last

@@ -1,6 +1,6 @@
 -- What a connection's machine is told, in order. All that is known of a link, of the pins and of the choices is a part
 -- of it.
-use Rattle.std.specs.Prelude.{◌≡◌, ℕ, List, [], ◌∷◌, ◌==◌}
+use Rattle.std.specs.Prelude.{◌≡◌, ℕ, List, [], ◌∷◌, ◌==◌, not}
 use Rattle.std.specs.List.{flat_map}
 use Rattle.link_world.specs.declared.note.Look.{Look}
 use Rattle.link_world.specs.declared.note.NodePick.{NodePick}
@@ -42,6 +42,16 @@ failures_by link (drew p) = []
 failures_by link (spent n) = []
 failures_by link (ticked n) = []
 failures_by link stopped = []
+
+abbrev pub elsewhere_by : ℕ → Step → List ℕ
+elsewhere_by link (happened l e) = only_if (not (link == l)) (l ∷ [])
+elsewhere_by link (failed l) = only_if (not (link == l)) (l ∷ [])
+elsewhere_by link (pinned p) = []
+elsewhere_by link (looked l) = []
+elsewhere_by link (drew p) = []
+elsewhere_by link (spent n) = []
+elsewhere_by link (ticked n) = []
+elsewhere_by link stopped = []
 
 abbrev pub pins_by : Step → List Plan
 pins_by (happened l e) = []
@@ -99,6 +109,10 @@ history link = flat_map (history_by link)
 
 abbrev pub failures : ℕ → List Step → List (Unit {0})
 failures link = flat_map (failures_by link)
+
+-- of each step that is of another link than this, that link
+abbrev pub elsewhere : ℕ → List Step → List ℕ
+elsewhere link = flat_map (elsewhere_by link)
 
 -- the pins, the looks, the picks, the refused draws and the stops
 abbrev pub pins : List Step → List Plan

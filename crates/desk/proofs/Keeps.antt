@@ -7,6 +7,7 @@ use Rattle.link_world.specs.declared.note.Look.{Look}
 use Rattle.link_world.specs.declared.note.NodePick.{NodePick}
 use Rattle.wrr_deadlines.specs.Choice.{Draws}
 use Rattle.wrr_deadlines.specs.declared.choice.Pick.{Pick}
+use Rattle.wrr_deadlines.specs.declared.choice.Drawn.{Drawn}
 use Rattle.wrr_deadlines.specs.declared.choice.Drawn.TheVariants as drawn
 use Rattle.desk.specs.declared.told.Told.{Told}
 use Rattle.desk.specs.declared.told.Told.TheVariants.{Began, Looked, Drew}
@@ -162,6 +163,14 @@ seat_draw ns es es' n node count mask pick h b c d =
     let more = draw_more (looks_told es n) (picks_told es n) (picks_told es' n) node count mask pick (picks_at es es' n n (Drew p) true b (same_key n n refl)) c d in
     subst (λ (s : Seat). DrawDid s node mask (drawn.Pick pick) (held (seat_in ns es' n))) (sym before)
     (subst (λ (s : Seat). DrawDid (seat_of (looks_told es n) (picks_told es n)) node mask (drawn.Pick pick) s) (sym after) more)
+
+-- what is drawn by the count that is kept is drawn by the seat's
+pub seat_exact : (ns : List ℕ) (es : List (ℕ × Told)) (n node count mask : ℕ) (result : Drawn) → IsHeld (seat_in ns es n)
+    → count ≡ last_end node 0 (picks_told es n) → Draws one_server mask count result → Draws one_server mask ((held (seat_in ns es n)).count node) result
+seat_exact ns es n node count mask result h c d =
+    let e = among_of (among ns n) (looks_told es n) (picks_told es n) h in
+    let same : (held (seat_in ns es n)).count node ≡ last_end node 0 (picks_told es n) = ap (λ (s : Seat). s.count node) (held_by (among ns n) (looks_told es n) (picks_told es n) e) in
+    subst (λ (k : ℕ). Draws one_server mask k result) (c ∙ sym same) d
 
 -- there still is a seat
 pub seat_stays : (ns : List ℕ) (es es' : List (ℕ × Told)) (n : ℕ) → IsHeld (seat_in ns es n) → IsHeld (seat_in ns es' n)

@@ -2,6 +2,7 @@
 //! drawn under each number.
 #![tactic(auto)]
 
+mod final_desk;
 mod laws;
 mod one;
 mod seats;
@@ -12,6 +13,7 @@ mod tests;
 mod timeline;
 mod told;
 
+pub use final_desk::FinalDesk;
 pub use laws::the_last_is_the_greatest;
 pub use one::OneDesk;
 pub use shared::Shared;

@@ -1,7 +1,8 @@
 //! What one thread shares with itself.
-ghost use Rattle.std.specs.Prelude.{◌≡◌, ◌<◌, ◌+◌, ◌++◌, ◌∷◌, [], ℕ, List, None, OnOk, OnErr, IfOk};
+ghost use Rattle.std.specs.Prelude.{◌≡◌, ◌<◌, ◌+◌, ◌++◌, ◌∷◌, [], ℕ, List, Some, None, OnOk, OnErr, IfOk};
 ghost use Rattle.conversation.specs.Plans.{Plan};
-ghost use Rattle.desk.specs.Desks.{IsAttended, LookDid, RoomLeft, Grew, IsLast};
+ghost use Rattle.wrr_deadlines.specs.Choice.{Draws};
+ghost use Rattle.desk.specs.Desks.{IsAttended, LookDid, DrawDid, Reseated, RoomLeft, Grew, IsLast, seat_at, one_server};
 ghost use Rattle.desk.specs.Issues.{issue_plan};
 ghost use Rattle.desk.specs.Kept.{desk_of, room_of, newest_plan};
 
@@ -23,7 +24,7 @@ use wrr_deadlines::Drawn;
 pub struct OneDesk {
     pub(crate) timeline: Timeline,
     pub(crate) seats: Seats,
-    server: OneServer,
+    pub(crate) server: OneServer,
 }
 
 impl OneDesk {
@@ -93,7 +94,16 @@ impl Shared for OneDesk {
         mask
     }
 
-    fn draw<R: Wait>(&mut self, rt: &R, number: u64, node: u32, mask: u64) -> Drawn {
+    fn draw<R: Wait>(&mut self, rt: &R, number: u64, node: u32, mask: u64) -> Drawn
+        requires attended { IsAttended (desk_of self.old) number }
+        requires room { 0 < (room_of self.old.seats).picks }
+        ensures drawn { DrawDid (seat_at (desk_of self.old) number) node mask result (seat_at (desk_of self.new) number) }
+        ensures seat { Reseated (desk_of self.old) number (Some (seat_at (desk_of self.new) number)) (desk_of self.new) }
+        ensures room { RoomLeft (room_of self.old.seats) 0 1 (room_of self.new.seats) }
+
+        // By the very count that the seat had at the node.
+        ensures exact { Draws one_server mask ((seat_at (desk_of self.old) number).count node) result }
+    {
         let _ = rt;
         self.seats.draw(&self.server, number, node, mask)
     }

@@ -1,6 +1,7 @@
 // What was looked at and drawn under each number that is attended.
 ghost use Rattle.std.specs.Prelude.{◌≡◌, ◌≢◌, ◌<◌, ◌≤◌, ℕ, Some, None, OnOk, OnErr, not, ◌==◌, ◌+◌, ◌++◌, ◌∷◌, [], filter, vec_len, vec_capacity, if◌then◌else◌};
-ghost use Rattle.desk.specs.Desks.{IsHeld, held, with_look, DrawDid, RoomLeft};
+ghost use Rattle.wrr_deadlines.specs.Choice.{Draws};
+ghost use Rattle.desk.specs.Desks.{IsHeld, held, with_look, DrawDid, RoomLeft, one_server};
 ghost use Rattle.desk.specs.Told.{last_count, is_count, AreCounted};
 
 use crate::server::OneServer;
@@ -81,6 +82,9 @@ impl Seats {
         ensures held { IsHeld (seats_of self.new number) }
         ensures others { (n : ℕ) → n ≢ number → seats_of self.new n ≡ seats_of self.old n }
         ensures room { RoomLeft (room_of self.old) 0 1 (room_of self.new) }
+
+        // By the very count that the seat had at the node.
+        ensures exact { Draws one_server mask ((held (seats_of self.old number)).count node) result }
     {
         let count = count_at(self.counts.as_slice(), number, node);
         let drawn = server.draw(count, mask);

@@ -65,6 +65,7 @@ impl Timeline {
             ≡ pins_of (published_in self.old.earlier.items) self.old.newest ++ published_plan self.new.newest ∷ []) }
         ensures err { OnErr result (pins_of (published_in self.new.earlier.items) self.new.newest
             ≡ pins_of (published_in self.old.earlier.items) self.old.newest) }
+        ensures newest { published_plan self.new.newest ≡ published_plan self.old.newest }
     {
         let pins = self.newest.pins.checked_add(1).ok_or(AllocError)?;
         let issue = self.newest.issue.clone()?;

@@ -2,7 +2,7 @@
 use Rattle.std.specs.Prelude.{◌≡◌, ℕ, [], filter, map}
 use Rattle.dyn_config.specs.declared.merged.Merged.{Merged}
 use Rattle.router_table.specs.Settings.{setting_of}
-use Rattle.router_table.specs.Rows.{AreRows}
+use Rattle.router_table.specs.Rows.{AreRows, Refuses}
 use Rattle.service_graph.specs.Only.{IsFirstForm}
 use Rattle.generation.specs.Nodes.{AreNodes, is_usable, name_of}
 use Rattle.generation.specs.declared.generation.Generation.{Generation}
@@ -20,3 +20,9 @@ pub record IsOf (number : ℕ) (m : Merged) (g : Generation) : Type 0 where
 abbrev pub IsBuilt : ℕ → Merged → Built → Type 0
 IsBuilt number m built.Later = ¬ (IsFirstForm m)
 IsBuilt number m (built.Generation g) = IsFirstForm m × IsOf number m g
+
+-- The shop, which counted `old` refusals before and `new` after, refused a pattern for each router that is disabled for
+-- that. A configuration of another form is built without asking the shop.
+abbrev pub IsCounted : ℕ → ℕ → Built → Type 0
+IsCounted old new built.Later = new ≡ old
+IsCounted old new (built.Generation g) = Refuses old new g.table.rows

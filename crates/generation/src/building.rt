@@ -1,7 +1,7 @@
 //! How a configuration becomes a generation.
-ghost use Rattle.std.specs.Prelude.{◌≡◌, IfOk, map};
+ghost use Rattle.std.specs.Prelude.{◌≡◌, ◌≤◌, IfOk, map};
 ghost use Rattle.generation.specs.Nodes.{name_of};
-ghost use Rattle.generation.specs.Built.{IsBuilt};
+ghost use Rattle.generation.specs.Built.{IsBuilt, IsCounted};
 
 use crate::generation::Generation;
 use crate::nodes::{Node, read_nodes};
@@ -30,7 +30,10 @@ pub fn build_generation<S: PatternShop>(
     merged: &Merged,
     shop: &mut S,
 ) -> Result<Built, Memory>
-    ensures { IfOk result (IsBuilt number merged.now) }
+    ensures built { IfOk result (IsBuilt number merged.now) }
+    // No more routers are disabled for a pattern that is too big than the shop counted refusals in this call.
+    ensures counted { IfOk result (IsCounted (S.refusals shop.old) (S.refusals shop.new)) }
+    ensures later { S.refusals shop.old ≤ S.refusals shop.new }
 {
     if !is_first_form(alloc, merged)? {
         return Ok(Built::Later);

@@ -1,9 +1,10 @@
 use Rattle.std.proofs.Common.{ap, ◌∙◌, List}
 use Rattle.link_world.specs.declared.note.NodePick.{NodePick}
+use Rattle.wrr_deadlines.specs.declared.choice.Drawn.TheVariants as drawn
 use Rattle.desk.specs.declared.told.Told.TheVariants.{Drew}
 use Rattle.desk.specs.declared.told.NodeCount.{NodeCount}
 use Rattle.desk.specs.Told.{last_count}
-use Rattle.desk.proofs.Keeps.{seat_draw, seat_stays, seat_others}
+use Rattle.desk.proofs.Keeps.{seat_draw, seat_exact, seat_stays, seat_others}
 use Rattle.desk.proofs.Counts.{counted_draw}
 use Rattle.desk.proofs.seats.Seats.draw.Goals as goal
 
@@ -13,6 +14,20 @@ returns-in-Pick-clause-drawn c =
     ∙ c.args.self.now.counted c.args.number c.args.node in
     seat_draw c.args.self.now.numbers.items c.args.self.now.told.items c.and-self.result.items c.args.number c.args.node c.count_at-count.result c.args.mask c.in-Pick.pick
     c.requires.held c.and-self.ensures count (rw c.in-Pick.is at c.draw-drawn.ensures)
+
+pub returns-in-Pick-clause-exact : goal.returns-in-Pick-clause-exact
+returns-in-Pick-clause-exact c =
+    let count = c.count_at-count.ensures ∙ ap (λ (xs : List NodeCount). last_count c.args.number c.args.node 0 xs) c.as_slice.ensures.value
+    ∙ c.args.self.now.counted c.args.number c.args.node in
+    seat_exact c.args.self.now.numbers.items c.args.self.now.told.items c.args.number c.args.node c.count_at-count.result c.args.mask (drawn.Pick c.in-Pick.pick)
+    c.requires.held count (rw c.in-Pick.is at c.draw-drawn.ensures)
+
+pub returns-in_default-clause-exact : goal.returns-in_default-clause-exact
+returns-in_default-clause-exact c =
+    let count = c.count_at-count.ensures ∙ ap (λ (xs : List NodeCount). last_count c.args.number c.args.node 0 xs) c.as_slice.ensures.value
+    ∙ c.args.self.now.counted c.args.number c.args.node in
+    seat_exact c.args.self.now.numbers.items c.args.self.now.told.items c.args.number c.args.node c.count_at-count.result c.args.mask c.draw-drawn.result
+    c.requires.held count c.draw-drawn.ensures
 
 pub returns-in-Pick-clause-held : goal.returns-in-Pick-clause-held
 returns-in-Pick-clause-held c = seat_stays c.args.self.now.numbers.items c.args.self.now.told.items c.and-self.result.items c.args.number c.requires.held
