@@ -18,7 +18,7 @@ const MAX_FILE: usize = 1_048_576;
 pub enum FileFault {
     /// They are no TOML text.
     NotToml,
-    /// The document is no configuration; never for want of memory.
+    /// The document is no configuration; never because memory ran out.
     Config(ConfigFault),
     Memory,
 }
@@ -30,6 +30,7 @@ pub enum PollFault {
     ReadFault,
     /// It has more than 1 MiB.
     TooLong,
+    /// Its bytes are no configuration; never because memory ran out.
     File(FileFault),
     Memory,
 }

@@ -1,7 +1,7 @@
 -- What a message changes.
-use Rattle.std.specs.Prelude.{◌≡◌, ◌≢◌, ℕ, ◌==◌, if◌then◌else◌, Option, Some, None}
+use Rattle.std.specs.Prelude.{◌≡◌, ◌≢◌, ◌≤◌, ℕ, ◌==◌, if◌then◌else◌, Option, Some, None}
 use Rattle.provider_merge.specs.declared.message.Message.{Message}
-use Rattle.provider_merge.specs.declared.latest.Latest.{Latest}
+use Rattle.provider_merge.specs.declared.providers.Latest.{Latest}
 use Rattle.provider_merge.specs.declared.latest.Changed.{Changed}
 use Rattle.provider_merge.specs.declared.latest.Changed.TheVariants.{No, Yes}
 use Rattle.dyn_config.specs.declared.config.Config.{Config}
@@ -12,10 +12,10 @@ use Rattle.provider_merge.specs.Merging.{DeclaresNothing, IsMerged}
 abbrev pub message_of : Latest → ℕ → Option Message
 message_of latest provider = if provider == 0 then latest.file else latest.consul
 
--- the same with this message in the place of its provider's
-abbrev pub with_message : Latest → Message → Latest
-with_message latest message =
-    if message.provider == 0 then record latest { file = Some message } else record latest { consul = Some message }
+-- the message stands in its provider's place, and the other provider's is the same
+pub record IsTaken (old : Latest) (message : Message) (new : Latest) : Type 0 where
+  pub taken : message_of new message.provider ≡ Some message
+  pub other : (provider : ℕ) → provider ≤ 1 → provider ≢ message.provider → message_of new provider ≡ message_of old provider
 
 -- a first message is news where it declares something, a later one where it differs from the latest
 abbrev pub IsNewsAfter : Option Message → Message → Type 0
@@ -28,7 +28,7 @@ IsNews latest message = IsNewsAfter (message_of latest message.provider) message
 -- what is no news changes nothing; news replaces the latest message of its provider as a whole
 abbrev pub IsAccepted : Latest → Message → Changed → Latest → Type 0
 IsAccepted old message No new = ¬ (IsNews old message) × (new ≡ old)
-IsAccepted old message Yes new = IsNews old message × (new ≡ with_message old message)
+IsAccepted old message Yes new = IsNews old message × IsTaken old message new
 
 -- the configuration of a message, or the empty one where there is none
 abbrev pub IsConfigOf : Option Message → Config → Type 0

@@ -112,7 +112,8 @@ fn copy_servers(alloc: Global, servers: &List<ServerDef>) -> Result<List<ServerD
     Ok(List::from_vec(copies))
 }
 
-fn copy_sticky(alloc: Global, sticky: &Option<Cookie>) -> Result<Option<Cookie>, Memory>
+/// A copy of a balancer's or a weighted service's stickiness.
+pub fn copy_sticky(alloc: Global, sticky: &Option<Cookie>) -> Result<Option<Cookie>, Memory>
     ensures { IfOk result (λ copy. copy ≡ sticky.now) }
 {
     match sticky {
@@ -135,7 +136,8 @@ fn copy_cookie(alloc: Global, cookie: &Cookie) -> Result<Cookie, Memory>
     })
 }
 
-fn copy_health(alloc: Global, health: &Option<Health>) -> Result<Option<Health>, Memory>
+/// A copy of a balancer's health check.
+pub fn copy_health(alloc: Global, health: &Option<Health>) -> Result<Option<Health>, Memory>
     ensures { IfOk result (λ copy. copy ≡ health.now) }
 {
     match health {

@@ -1,5 +1,5 @@
-//! The latest message of each provider.
-ghost use Rattle.std.specs.Prelude.{◌≡◌, ◌↔◌, IsTrue, IfOk};
+//! What messages change, and what the latest ones declare.
+ghost use Rattle.std.specs.Prelude.{◌≡◌, ◌≤◌, ◌↔◌, IsTrue, IfOk, length};
 ghost use Rattle.std.specs.Option.{option_copied};
 ghost use Rattle.provider_merge.specs.Messages.{message_of, IsNews, IsAccepted, IsConfigOf, IsMergedOf};
 
@@ -7,16 +7,10 @@ use crate::alone::{declares_nothing, empty_config};
 use crate::both::merge;
 use crate::copying::copy_config;
 use crate::message::Message;
+use crate::providers::Latest;
 use dyn_config::{Config, Merged, equal};
 use px_base::Memory;
 use std::alloc::Global;
-
-/// The latest message of each provider, where it has sent one.
-#[derive(Drop)]
-pub struct Latest {
-    pub file: Option<Message>,
-    pub consul: Option<Message>,
-}
 
 /// Whether a message changes what is published.
 #[derive(Clone, Copy, Debug, PartialEq, Eq)]
@@ -91,7 +85,8 @@ fn copy_message(alloc: Global, message: &Message) -> Result<Message, Memory>
 
 /// What the latest messages declare, as one, under qualified names. A provider that has sent none declares nothing.
 pub fn merge_latest(alloc: Global, latest: &Latest) -> Result<Merged, Memory>
-    ensures { IfOk result (IsMergedOf latest.now) }
+    ensures merged { IfOk result (IsMergedOf latest.now) }
+    ensures few { IfOk result (λ m. length m.services ≤ 1000) }
 {
     let file = config_of(alloc, &latest.file)?;
     let consul = config_of(alloc, &latest.consul)?;

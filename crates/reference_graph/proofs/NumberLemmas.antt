@@ -1,12 +1,14 @@
 -- How one number after another is given.
-use Rattle.std.proofs.Common.{◌≡◌, ◌≢◌, ◌∙◌, ℕ, ◌+◌, ◌<◌, List, [], ◌∷◌, ◌++◌, length, get_or, set, Bool, true, false, Option, Some, None, is_some, refl, sym, ap, subst, arith, ◌==◌, ◌||◌, append_assoc, append-nil, if◌then◌else◌}
+use Rattle.std.proofs.Common.{◌≡◌, ◌≢◌, ◌∙◌, ℕ, ◌+◌, ◌<◌, List, [], ◌∷◌, ◌++◌, length, get_or, set, Bool, true, false, Option, Some, None, is_some, refl, sym, ap, subst, arith, ◌==◌, ◌||◌, append_assoc, append-nil, if◌then◌else◌, sum_by, replicate, zero, suc}
 use Rattle.std.proofs.lemmas.Grind.{common_steps}
 use Rattle.std.proofs.lemmas.Bool.{false≢true}
-use Rattle.std.proofs.lemmas.List.{get_or-set_same, get_or-set_other, get_or_default}
+use Rattle.std.proofs.lemmas.List.{get_or-set_same, get_or-set_other, get_or_default, length-append}
+use Rattle.std.proofs.lemmas.List.Sums.{sum_by-set}
+use Rattle.std.proofs.lemmas.List.Folds.{sum_by-replicate}
 use Rattle.reference_graph.specs.Links.{Links, is_among, links_at, AreWithin}
 use Rattle.reference_graph.specs.Heights.{Heights, height_at, is_sound, depth_of}
 use Rattle.reference_graph.specs.Search.{is_in}
-use Rattle.reference_graph.specs.Numbering.{first_without, GoesDown, IsNext, AreNext, number_from, number_of, number_in, has_number, AreNumbers, AreLayered, IsNumberedBelow}
+use Rattle.reference_graph.specs.Numbering.{first_without, GoesDown, IsNext, AreNext, number_from, number_of, number_in, has_number, AreNumbers, AreLayered, AreOfSound, IsNumberedBelow, unnumbered}
 use Rattle.reference_graph.specs.declared.height.Height.{Height}
 use Rattle.reference_graph.proofs.SearchLemmas.{any_left, same_place, place_same, or_left, or_right}
 use Rattle.reference_graph.proofs.HeightLemmas.{sound_among}
@@ -81,11 +83,42 @@ next_push links sound done (x ∷ order) at are next =
     let P : List ℕ → Type 0 = λ ps. IsNext links sound (is_in ps) at in
     (are.0, next_push links sound (done ++ x ∷ []) order at are.1 (subst P (sym (append_assoc done (x ∷ []) order)) next))
 
+-- the number goes to a sound one
+of_sound_more : (sound : ℕ → Bool) (numbers : List (Option ℕ)) (at n : ℕ) → sound at ≡ true → AreOfSound sound numbers → AreOfSound sound (set numbers at (Some n))
+of_sound_more sound numbers at n here are = λ k has. elim (k == at) as (λ v. ((k == at) ≡ v) → sound k ≡ true) [
+  | true ↦ λ e. ap sound (same_place k at e) ∙ here
+  | false ↦ λ e.
+      let other : k ≢ at = λ same. false≢true (sym e ∙ place_same k at same) in
+      are k (sym (ap is_some (get_or-set_other numbers at k (Some n) None other)) ∙ has)
+] refl
+
+none_counts : (o : Option ℕ) → is_some o ≡ false → unnumbered o ≡ 1
+none_counts None h = refl
+none_counts (Some k) h = absurd (false≢true (sym h))
+
+-- one number more, and one object less without
+counted_more : (order : List ℕ) (numbers : List (Option ℕ)) (at n : ℕ) → at < length numbers → has_number numbers at ≡ false → length order + sum_by unnumbered numbers ≡ n
+    → length (order ++ at ∷ []) + sum_by unnumbered (set numbers at (Some (length order))) ≡ n
+counted_more order numbers at n l fresh sum =
+    let moved = sum_by-set unnumbered numbers at (Some (length order)) None l in
+    let one : unnumbered (get_or numbers at None) ≡ 1 = none_counts (number_in numbers at) fresh in
+    let long = length-append order (at ∷ []) in
+    omega (arith, moved, one, long, sum)
+
+-- none has its number yet
+pub none_numbered : (n k : ℕ) → has_number (replicate n None) k ≡ false
+none_numbered zero k = refl
+none_numbered (suc n) zero = refl
+none_numbered (suc n) (suc k) = none_numbered n k
+
+pub all_unnumbered : (n : ℕ) → sum_by unnumbered (replicate n None) ≡ n
+all_unnumbered n = sum_by-replicate unnumbered n None ∙ (omega arith)
+
 -- one more number is given
 pub numbered_more : (links : Links) (heights : Heights) (first at : ℕ) (order : List ℕ) (numbers : List (Option ℕ)) → at < length links → is_sound heights first ≡ true
-    → has_number numbers first ≡ false → has_number numbers at ≡ false → (between : List ℕ) → GoesDown links (has_number numbers) first between at
+    → is_sound heights at ≡ true → has_number numbers first ≡ false → has_number numbers at ≡ false → (between : List ℕ) → GoesDown links (has_number numbers) first between at
     → IsNumberedBelow links (is_sound heights) first order numbers → IsNumberedBelow links (is_sound heights) first (order ++ at ∷ []) (set numbers at (Some (length order)))
-numbered_more links heights first at order numbers l sound none fresh between down is =
+numbered_more links heights first at order numbers l sound here none fresh between down is =
     let agree = numbers_agree order numbers is.numbers_are in
     let inside : at < length numbers = let e = is.long in omega (arith, e, l) in
     record {
@@ -100,6 +133,8 @@ numbered_more links heights first at order numbers l sound none fresh between do
         down = down_same links (has_number numbers) (is_in order) first between at agree down;
       });
       all = λ k lk s. any_left (λ (place : ℕ). place == k) order (at ∷ []) (is.all k lk s);
+      of_sound = of_sound_more (is_sound heights) numbers at (length order) here is.of_sound;
+      counted = counted_more order numbers at (length links) inside fresh is.counted;
     }
 
 -- the first one has its number too
@@ -115,6 +150,8 @@ numbered_upto links heights first order numbers is has = record {
         sym (numbers_agree order numbers is.numbers_are k) ∙ ap (has_number numbers) same ∙ has (ap (is_sound heights) (sym same) ∙ s)
     | false ↦ λ e. is.all k (let other : k ≢ first = λ same. false≢true (sym e ∙ place_same k first same) in omega (arith, l, other)) s
   ] refl;
+  of_sound = is.of_sound;
+  counted = is.counted;
 }
 
 pub record GoesOn (links : Links) (heights : Heights) (numbers : List (Option ℕ)) (first at : ℕ) : Type 0 where

@@ -51,7 +51,7 @@ pub record IsHeight (links : Links) (blocked : List Bool) (heights : Heights) (a
 abbrev pub AreHeights : Links → List Bool → Heights → Type 0
 AreHeights links blocked heights = (at : ℕ) (h : Height) → height_at heights at ≡ Some h → IsHeight links blocked heights at h
 
--- an object to which nothing stands against refers to one that isn't sound, or its tree is too large
+-- nothing stands against the object itself, but it refers to one that isn't sound, or its tree is too large
 abbrev pub IsHeld : Links → Heights → ℕ → Type 0
 IsHeld links heights at =
     (are_sound heights (links_at links at) ≡ false) ⊎ ((below : Trees) × AreTrees links (links_at links at) below × IsLarge below)

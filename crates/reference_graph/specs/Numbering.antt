@@ -1,7 +1,7 @@
 -- The numbers of sound objects. The next number goes to the object that is found so: begin at the first sound one, by its place,
 -- that has no number; while it refers to one without a number, go on to the first such. So what an object refers to has its number
 -- before it, and the order is that in which a walk that goes down before it goes on leaves the objects.
-use Rattle.std.specs.Prelude.{◌≡◌, ℕ, ◌+◌, ◌<◌, ◌==◌, Bool, true, false, List, [], ◌∷◌, ◌++◌, length, Option, Some, None, is_some, ⊤, if◌then◌else◌}
+use Rattle.std.specs.Prelude.{◌≡◌, ℕ, ◌+◌, ◌<◌, ◌==◌, Bool, true, false, List, [], ◌∷◌, ◌++◌, length, Option, Some, None, is_some, sum_by, ⊤, if◌then◌else◌}
 use Rattle.std.specs.List.{slice_index_or}
 use Rattle.reference_graph.specs.Links.{Links, links_at, refers}
 use Rattle.reference_graph.specs.Heights.{Heights, height_at, are_sound, depth_of}
@@ -65,12 +65,18 @@ pub record IsLayered (links : Links) (heights : Heights) (at : ℕ) (h : Height)
 abbrev pub AreLayered : Links → Heights → Type 0
 AreLayered links heights = (at : ℕ) (h : Height) → height_at heights at ≡ Some h → IsLayered links heights at h
 
--- the sound objects below a place have their numbers
+abbrev pub unnumbered : Option ℕ → ℕ
+unnumbered number = if is_some number then 0 else 1
+
+-- sound objects alone have numbers
+abbrev pub AreOfSound : (ℕ → Bool) → List (Option ℕ) → Type 0
+AreOfSound sound numbers = (at : ℕ) → has_number numbers at ≡ true → sound at ≡ true
+
+-- the sound objects below a place have their numbers, and no others but sound ones
 pub record IsNumberedBelow (links : Links) (sound : ℕ → Bool) (upto : ℕ) (order : List ℕ) (numbers : List (Option ℕ)) : Type 0 where
   pub long : length numbers ≡ length links
   pub numbers_are : AreNumbers order numbers
   pub next : AreNext links sound [] order
   pub all : (at : ℕ) → at < upto → sound at ≡ true → is_in order at ≡ true
-
-abbrev pub unnumbered : Option ℕ → ℕ
-unnumbered number = if is_some number then 0 else 1
+  pub of_sound : AreOfSound sound numbers
+  pub counted : length order + sum_by unnumbered numbers ≡ length links

@@ -1,4 +1,4 @@
--- A search for what a service reaches: what was seen so far, and whose references are still to be looked at.
+-- A search for what an object reaches: what was seen so far, and whose references are still to be looked at.
 use Rattle.std.specs.Prelude.{◌≡◌, ℕ, ◌+◌, ◌<◌, ◌==◌, ◌⊎◌, Bool, true, false, List, Option, length, sum_by, if◌then◌else◌}
 use Rattle.std.specs.List.{slice_index_or, list_any}
 use Rattle.reference_graph.specs.Links.{Links, refers, is_among}

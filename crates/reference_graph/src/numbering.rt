@@ -2,7 +2,7 @@
 ghost use Rattle.std.specs.Prelude.{◌≡◌, ◌<◌, ◌+◌, ◌≤◌, ℕ, List as ListOf, true, false, length, IfOk, OnOk};
 ghost use Rattle.reference_graph.specs.Links.{AreWithin};
 ghost use Rattle.reference_graph.specs.Heights.{is_sound};
-ghost use Rattle.reference_graph.specs.Numbering.{AreLayered, IsNumbering, IsNumberedBelow, AreNumbers, GoesDown, first_without, has_number};
+ghost use Rattle.reference_graph.specs.Numbering.{AreLayered, AreOfSound, IsNumbering, IsNumberedBelow, AreNumbers, GoesDown, first_without, has_number};
 
 use crate::height::Height;
 use crate::links::places_at;
@@ -14,7 +14,7 @@ use std::alloc::Global;
 pub struct Numbering {
     /// The places of the sound objects, in the order of their numbers.
     pub order: Vec<usize>,
-    /// For each object its number, if it is sound.
+    /// For each object its number, where it is sound.
     pub numbers: Vec<Option<usize>>,
 }
 
@@ -29,6 +29,9 @@ pub fn number_all(
     requires layered { AreLayered links.now heights.now }
     ensures order { IfOk result (λ n. IsNumbering links.now (is_sound heights.now) n.order.items) }
     ensures numbers { IfOk result (λ n. AreNumbers n.order.items n.numbers.items) }
+    ensures long { IfOk result (λ n. length n.numbers.items ≡ length links.now) }
+    ensures sound { IfOk result (λ n. AreOfSound (is_sound heights.now) n.numbers.items) }
+    ensures few { IfOk result (λ n. length n.order.items ≤ length links.now) }
 {
     let mut order = Vec::new(alloc);
     let mut numbers = vec![in alloc; None; links.len()]?;
@@ -78,6 +81,7 @@ fn next_below(
     requires sound { is_sound heights.now first ≡ true }
     requires has_none { has_number numbers.now first ≡ false }
     ensures inside { result < length links.now }
+    ensures sound { is_sound heights.now result ≡ true }
     ensures has_none { has_number numbers.now result ≡ false }
     ensures down { (between : ListOf ℕ) × GoesDown links.now (has_number numbers.now) first between result }
 {

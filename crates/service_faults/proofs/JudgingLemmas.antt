@@ -1,11 +1,12 @@
 -- How services are judged by what stands against them and by their heights.
-use Rattle.std.proofs.Common.{◌≡◌, ◌≢◌, ◌∙◌, ℕ, ◌+◌, ◌<◌, ◌≤◌, inl, inr, List, [], ◌∷◌, ◌++◌, length, get_or, map, Bool, true, false, Option, Some, None, is_some, refl, sym, ap, subst, arith, zero, suc, ◌==◌, ◌&&◌, if◌then◌else◌}
+use Rattle.std.proofs.Common.{◌≡◌, ◌≢◌, ◌∙◌, ℕ, ◌+◌, ◌<◌, ◌≤◌, inl, inr, List, [], ◌∷◌, ◌++◌, length, get_or, map, Bool, true, false, Option, Some, None, is_some, is_none, nat_lt, refl, sym, ap, subst, arith, zero, suc, ◌==◌, ◌&&◌, if◌then◌else◌}
 use Rattle.std.specs.List.{list_any, list_all}
 use Rattle.std.specs.Str.{bytes_eq}
 use Rattle.std.proofs.lemmas.Option.{slice_get_within, get_or_from_slice_get}
 use Rattle.std.proofs.lemmas.List.{length-map}
 use Rattle.std.proofs.lemmas.Grind.{common_steps}
-use Rattle.std.proofs.lemmas.Bool.{false≢true, leb-true}
+use Rattle.std.proofs.lemmas.Bool.{false≢true, leb-true, cases_lt}
+use Rattle.std.proofs.lemmas.Bool.Decides.{nat_tests}
 use Rattle.reference_graph.specs.Links.{Links, is_among, is_to, links_at, AreWithin}
 use Rattle.reference_graph.specs.Trees.{IsLarge}
 use Rattle.reference_graph.specs.Heights.{Heights, height_at, is_sound, are_sound, is_blocked, AreHeights, IsHeld, IsJudged}
@@ -13,7 +14,9 @@ use Rattle.reference_graph.specs.declared.height.Height.{Height}
 use Rattle.reference_graph.proofs.SearchLemmas.{or_true, or_left, or_right, same_place, place_same}
 use Rattle.reference_graph.proofs.HeightLemmas.{sound_among, and_first, and_second}
 use Rattle.service_faults.specs.References.{ServiceEntry, written, place_from, place_of, places_of, links_of}
-use Rattle.service_faults.specs.Faults.{State, IsFree, RefersToSound, HasBelow, IsState, AreJudged}
+use Rattle.service_faults.specs.Faults.{State, IsFree, RefersToSound, HasBelow, IsState, AreJudged, faults_from}
+use Rattle.service_faults.specs.Judgements.{is_sound_service, IsJudgement}
+use Rattle.service_faults.specs.declared.judgement.Judgement.{Judgement}
 use Rattle.service_faults.specs.Blocked.{IsBlockedBy, judged_by, blocked_at, AreBlockedBelow, AreBlocked, judgement}
 use Rattle.service_faults.specs.declared.fault.ServiceFault.{ServiceFault}
 use Rattle.service_faults.specs.declared.fault.ServiceFault.TheVariants as fault
@@ -167,6 +170,56 @@ all_judged services links blocked flags heights same is flagged are held = λ at
     let Q : List Bool → Type 0 = λ fs. IsJudged links fs heights at in
     let R : Links → Type 0 = λ ls. IsState ls (judgement links heights blocked) e at (judgement links heights blocked at) in
     subst R same (judged_one links blocked heights e at (subst P flagged are) (subst Q flagged (held at n)) m (blocked_at blocked at) refl (is.1 at e l here))
+
+height_past : (heights : Heights) (at : ℕ) → length heights ≤ at → height_at heights at ≡ None
+height_past [] at l = refl
+height_past (h ∷ heights) zero l = absurd (omega (arith, l))
+height_past (h ∷ heights) (suc at) l = height_past heights at (omega (arith, l))
+
+is_none_some : (s : State) → is_some s ≡ true → is_none s ≡ false
+is_none_some None h = absurd (false≢true h)
+is_none_some (Some f) h = refl
+
+-- a service has a height exactly where it is declared and nothing stands against it
+sound_judged : (services : List ServiceEntry) (links : Links) (blocked : List State) (heights : Heights) (at : ℕ) → AreHeights links (map is_some blocked) heights
+    → length heights ≡ length services → is_sound heights at ≡ is_sound_service services (judgement links heights blocked) at
+sound_judged services links blocked heights at are long = elim (is_sound heights at) as (λ v. (is_sound heights at ≡ v) → v ≡ is_sound_service services (judgement links heights blocked) at) [
+  | true ↦ λ s.
+      let none = none_judged links blocked heights at are s in
+      elim (cases_lt at (length services)) [
+        | inl l ↦ sym (ap (λ (v : Bool). v && is_none (judgement links heights blocked at)) (lt-true l) ∙ ap is_none none)
+        | inr l ↦ absurd (false≢true (sym (ap is_some (height_past heights at (omega (arith, l, long)))) ∙ s))
+      ]
+  | false ↦ λ s. sym (ap (λ (v : Bool). nat_lt at (length services) && v) (is_none_some (judgement links heights blocked at) (some_by links heights at (blocked_at blocked at) s)) ∙ and_false (nat_lt at (length services)))
+] refl
+  where
+    lt-true : at < length services → nat_lt at (length services) ≡ true
+    lt-true l = grind (arith, nat_tests)
+
+    and_false : (v : Bool) → (v && false) ≡ false
+    and_false true = refl
+    and_false false = refl
+
+-- the whole judgement
+pub is_judged_whole : (services : List ServiceEntry) (places : Links) (j : Judgement) (blocked : List State) (heights : Heights) → j.links.items ≡ links_of services
+    → places ≡ j.links.items → AreBlocked places services blocked → length j.heights.items ≡ length places → AreHeights places (map is_some blocked) j.heights.items
+    → ((at : ℕ) → at < length places → IsJudged places (map is_some blocked) j.heights.items at) → heights ≡ j.heights.items
+    → j.faults ≡ faults_from (judgement places heights blocked) 0 services → IsJudgement services j
+is_judged_whole services places j blocked heights same placed is long are held high faults =
+    let e : places ≡ links_of services = placed ∙ same in
+    let P : Heights → Type 0 = λ hs. j.faults ≡ faults_from (judgement places hs blocked) 0 services in
+    let Q : Links → Type 0 = λ ls. AreHeights ls (map is_some blocked) j.heights.items in
+    let here : AreHeights (links_of services) (map is_some blocked) j.heights.items = subst Q e are in
+    record {
+      links_are = same;
+      judged = judgement places j.heights.items blocked;
+      are_judged = all_judged services places blocked (map is_some blocked) j.heights.items e is refl are held;
+      faults_are = subst P high faults;
+      long = long ∙ ap length e ∙ links_long services;
+      sound = λ at. sound_judged services places blocked j.heights.items at are (long ∙ ap length e ∙ links_long services);
+      tall = λ at h there. (here at h there).tall;
+      layered = λ at h there. record { sound = (here at h there).sound; higher = (here at h there).higher };
+    }
 
 -- one more service is looked at
 pub blocked_more : (links : Links) (services : List ServiceEntry) (blocked : List State) (at : ℕ) (e : ServiceEntry) (s : State) → at < length services

@@ -3,9 +3,11 @@
 
 mod fault;
 mod faults;
+mod judgement;
 mod judging;
 mod own;
 mod places;
 
 pub use fault::ServiceFault;
-pub use faults::service_faults;
+pub use faults::{judge_services, service_faults};
+pub use judgement::Judgement;

@@ -11,7 +11,7 @@ loop-numbers-preserved c =
     numbered_pushed c.args.links.now c.args.heights.now c.args.first c.next_below-at.result c.len.result c.loop-numbers.order.items c.push.new.self.items c.loop-numbers.numbers.items
     c.in_ok-push.ensures.items (omega (arith, c.len.ensures))
     (numbered_more c.args.links.now c.args.heights.now c.args.first c.next_below-at.result c.loop-numbers.order.items c.loop-numbers.numbers.items
-    c.next_below-at.ensures.inside c.requires.sound
+    c.next_below-at.ensures.inside c.requires.sound c.next_below-at.ensures.sound
     (has_number_read c.loop-numbers.numbers.items c.args.first c.index.result.now l c.index.ensures ∙ c.loop-numbers-test.ensures)
     (subst P c.as_slice.ensures.value c.next_below-at.ensures.has_none) c.next_below-at.ensures.down.0 (subst Q c.as_slice.ensures.value c.next_below-at.ensures.down.1)
     c.loop-numbers.invariant)
