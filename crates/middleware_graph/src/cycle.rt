@@ -8,17 +8,17 @@ use px_base::Memory;
 use std::alloc::Global;
 
 // Whether the middleware at this place leads to itself through its members and theirs.
-pub(crate) fn leads_to_itself(alloc: Global, nodes: &[Node], place: u32) -> Result<bool, Memory>
+pub(crate) fn leads_to_itself(alloc: Global, nodes: &[Node], place: usize) -> Result<bool, Memory>
     requires { place < length nodes.now }
     ensures { IfOk result (λ yes. IsTrue yes ↔ LeadsTo nodes.now place place) }
 {
     let mut seen = vec![in alloc; false; nodes.len()]?;
     search(alloc, nodes, place, seen.as_mut_slice())?;
-    Ok(seen[place as usize])
+    Ok(seen[place])
 }
 
 // Marks all that a place leads to. Each middleware is looked into once, and the place itself perhaps twice.
-fn search(alloc: Global, nodes: &[Node], place: u32, seen: &mut [bool]) -> Result<(), Memory>
+fn search(alloc: Global, nodes: &[Node], place: usize, seen: &mut [bool]) -> Result<(), Memory>
     requires size { length seen.old ≡ length nodes.now }
     requires none { (u : ℕ) → ¬ (IsSeen seen.old u) }
     ensures { OnOk result ((u : ℕ) → u < length nodes.now → IsSeen seen.new u ↔ LeadsTo nodes.now place u) }
@@ -32,10 +32,10 @@ fn search(alloc: Global, nodes: &[Node], place: u32, seen: &mut [bool]) -> Resul
 }
 
 // The members of the chain at a place; none of what is no chain.
-fn members_at(nodes: &[Node], place: u32) -> &[Option<u32>]
+fn members_at(nodes: &[Node], place: usize) -> &[Option<usize>]
     ensures { result.now ≡ members_of (slice_get nodes.now place) }
 {
-    match nodes.get(place as usize) {
+    match nodes.get(place) {
         Some(Node::Chain(members)) => members.as_slice(),
         Some(Node::Stage) => &[],
         Some(Node::Faulty(_)) => &[],
@@ -44,9 +44,9 @@ fn members_at(nodes: &[Node], place: u32) -> &[Option<u32>]
 }
 
 fn visit_all(
-    members: &[Option<u32>],
+    members: &[Option<usize>],
     seen: &mut [bool],
-    waiting: &mut Vec<u32>,
+    waiting: &mut Vec<usize>,
 ) -> Result<(), Memory>
     ensures { OnOk result (Visited members.now seen.old waiting.old.items seen.new waiting.new.items) }
 {
@@ -56,7 +56,7 @@ fn visit_all(
     Ok(())
 }
 
-fn visit(member: Option<u32>, seen: &mut [bool], waiting: &mut Vec<u32>) -> Result<(), Memory>
+fn visit(member: Option<usize>, seen: &mut [bool], waiting: &mut Vec<usize>) -> Result<(), Memory>
     ensures { OnOk result (Visited (member ∷ []) seen.old waiting.old.items seen.new waiting.new.items) }
 {
     match member {
@@ -65,14 +65,13 @@ fn visit(member: Option<u32>, seen: &mut [bool], waiting: &mut Vec<u32>) -> Resu
     }
 }
 
-fn visit_place(place: u32, seen: &mut [bool], waiting: &mut Vec<u32>) -> Result<(), Memory>
+fn visit_place(place: usize, seen: &mut [bool], waiting: &mut Vec<usize>) -> Result<(), Memory>
     ensures { OnOk result (Visited (Some place ∷ []) seen.old waiting.old.items seen.new waiting.new.items) }
 {
-    let at = place as usize;
-    if at >= seen.len() || seen[at] {
+    if place >= seen.len() || seen[place] {
         return Ok(());
     }
     waiting.push(place)?;
-    seen[at] = true;
+    seen[place] = true;
     Ok(())
 }

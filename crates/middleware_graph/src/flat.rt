@@ -1,5 +1,5 @@
 //! What chains stand for: their members in their place.
-ghost use Rattle.std.specs.Prelude.{◌≡◌, ℕ, ◌+◌, ◌<◌, ◌^◌, ◌∷◌, [], length, Some, IfOk};
+ghost use Rattle.std.specs.Prelude.{◌≡◌, ℕ, ◌+◌, ◌∷◌, [], Some, IfOk};
 ghost use Rattle.std.specs.Option.{option_copied};
 ghost use Rattle.middleware_graph.specs.Graph.{flat_of as flat_list, joined as joined_list, if_few, max_depth};
 ghost use Rattle.middleware_graph.specs.Tables.{IsTable, found_in as found_list};
@@ -16,7 +16,6 @@ const MAX_FLAT: usize = 64;
 
 /// What each middleware stands for: itself, or the members of a chain in its place.
 pub fn flatten(alloc: Global, nodes: &[Node]) -> Result<List<Flat>, Memory>
-    requires { length nodes.now < 2 ^ 32 }
     ensures { IfOk result (IsTable nodes.now max_depth) }
 {
     let mut table = List::new(alloc);
@@ -29,17 +28,16 @@ pub fn flatten(alloc: Global, nodes: &[Node]) -> Result<List<Flat>, Memory>
 
 // The same within one more level, from what it is within fewer.
 fn deeper(alloc: Global, nodes: &[Node], table: &[Flat]) -> Result<List<Flat>, Memory>
-    requires { length nodes.now < 2 ^ 32 }
     ensures { IfOk result (λ next. (depth : ℕ) → IsTable nodes.now depth table.now → IsTable nodes.now (depth + 1) next) }
 {
     let mut next = List::new(alloc);
     for (place, node) in nodes.iter().enumerate() {
-        next.push(flat_of(alloc, node, place as u32, table)?)?;
+        next.push(flat_of(alloc, node, place, table)?)?;
     }
     Ok(next)
 }
 
-fn flat_of(alloc: Global, node: &Node, place: u32, table: &[Flat]) -> Result<Flat, Memory>
+fn flat_of(alloc: Global, node: &Node, place: usize, table: &[Flat]) -> Result<Flat, Memory>
     ensures { IfOk result (λ flat. flat ≡ flat_list (found_list table.now) place (Some node.now)) }
 {
     match node {
@@ -49,7 +47,7 @@ fn flat_of(alloc: Global, node: &Node, place: u32, table: &[Flat]) -> Result<Fla
     }
 }
 
-fn alone(alloc: Global, place: u32) -> Result<Flat, Memory>
+fn alone(alloc: Global, place: usize) -> Result<Flat, Memory>
     ensures { IfOk result (λ flat. flat ≡ Some (place ∷ [])) }
 {
     let mut places = List::new(alloc);
@@ -58,7 +56,7 @@ fn alone(alloc: Global, place: u32) -> Result<Flat, Memory>
 }
 
 // What the members stand for, one after another.
-fn joined(alloc: Global, members: &[Option<u32>], table: &[Flat]) -> Result<Flat, Memory>
+fn joined(alloc: Global, members: &[Option<usize>], table: &[Flat]) -> Result<Flat, Memory>
     ensures { IfOk result (λ flat. flat ≡ if_few (joined_list (found_list table.now) members.now)) }
 {
     let mut places = Vec::new(alloc);
@@ -75,11 +73,11 @@ fn joined(alloc: Global, members: &[Option<u32>], table: &[Flat]) -> Result<Flat
 }
 
 // What the table says of a member.
-pub(crate) fn found_in(table: &[Flat], member: Option<u32>) -> Option<&[u32]>
+pub(crate) fn found_in(table: &[Flat], member: Option<usize>) -> Option<&[usize]>
     ensures { option_copied result ≡ found_list table.now member }
 {
     match member {
-        Some(place) => match table.get(place as usize) {
+        Some(place) => match table.get(place) {
             Some(Some(places)) => Some(places.as_slice()),
             Some(None) => None,
             None => None,

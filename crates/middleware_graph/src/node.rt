@@ -11,8 +11,8 @@ pub enum Node {
     /// It is disabled for a reason of its own.
     Faulty(MiddlewareFault),
     /// It stands for these, each by its place among all middlewares; None is one that isn't declared.
-    Chain(List<Option<u32>>),
+    Chain(List<Option<usize>>),
 }
 
 /// The middlewares that one stands for, in order, by their places. None where it is disabled.
-pub type Flat = Option<List<u32>>;
+pub type Flat = Option<List<usize>>;

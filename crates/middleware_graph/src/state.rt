@@ -1,5 +1,5 @@
 //! Whether a middleware can be used.
-ghost use Rattle.std.specs.Prelude.{◌≡◌, ◌<◌, ◌^◌, ◌↔◌, None, IsTrue, IfOk, Any, Contains, length, slice_get, Some};
+ghost use Rattle.std.specs.Prelude.{◌≡◌, ◌<◌, ◌↔◌, None, IsTrue, IfOk, Any, Contains, length, slice_get, Some};
 ghost use Rattle.middleware_graph.specs.Graph.{max_depth};
 ghost use Rattle.middleware_graph.specs.Tables.{IsTable, found_in as found_list};
 ghost use Rattle.middleware_graph.specs.States.{IsState, AreStates, IsChainState, IsStateOfChain};
@@ -21,13 +21,12 @@ pub enum State {
 
 /// The state of each middleware, where `flats` is what `flatten` said of them.
 pub fn states_of(alloc: Global, nodes: &[Node], flats: &[Flat]) -> Result<List<State>, Memory>
-    requires short { length nodes.now < 2 ^ 32 }
-    requires flats { IsTable nodes.now max_depth flats.now }
+    requires { IsTable nodes.now max_depth flats.now }
     ensures { IfOk result (AreStates nodes.now) }
 {
     let mut states = List::new(alloc);
     for (place, node) in nodes.iter().enumerate() {
-        states.push(state_of(alloc, nodes, flats, place as u32, node)?)?;
+        states.push(state_of(alloc, nodes, flats, place, node)?)?;
     }
     Ok(states)
 }
@@ -36,7 +35,7 @@ fn state_of(
     alloc: Global,
     nodes: &[Node],
     flats: &[Flat],
-    place: u32,
+    place: usize,
     node: &Node,
 ) -> Result<State, Memory>
     requires flats { IsTable nodes.now max_depth flats.now }
@@ -56,8 +55,8 @@ fn chain_state(
     alloc: Global,
     nodes: &[Node],
     flats: &[Flat],
-    place: u32,
-    members: &[Option<u32>],
+    place: usize,
+    members: &[Option<usize>],
 ) -> Result<State, Memory>
     requires flats { IsTable nodes.now max_depth flats.now }
     requires within { place < length nodes.now }
@@ -77,8 +76,8 @@ fn fault_of(
     alloc: Global,
     nodes: &[Node],
     flats: &[Flat],
-    place: u32,
-    members: &[Option<u32>],
+    place: usize,
+    members: &[Option<usize>],
 ) -> Result<MiddlewareFault, Memory>
     requires flats { IsTable nodes.now max_depth flats.now }
     requires within { place < length nodes.now }
@@ -98,14 +97,14 @@ fn fault_of(
 }
 
 // Whether one of the members isn't declared.
-fn lacks_one(members: &[Option<u32>]) -> bool
+fn lacks_one(members: &[Option<usize>]) -> bool
     ensures { IsTrue result ↔ Any (λ m. m ≡ None) members.now }
 {
     members.iter().any(|member| member.is_none())
 }
 
 // Whether one of the members stands for nothing.
-fn has_disabled(members: &[Option<u32>], flats: &[Flat]) -> bool
+fn has_disabled(members: &[Option<usize>], flats: &[Flat]) -> bool
     ensures { IsTrue result ↔ Any (λ m. found_list flats.now m ≡ None) members.now }
 {
     members

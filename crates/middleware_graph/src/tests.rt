@@ -5,7 +5,7 @@ use std::alloc::Global;
 use std::test::Fail;
 
 // A chain of these members. One that is 999 isn't declared.
-fn chain(alloc: Global, members: &[u32]) -> Result<Node, Memory> {
+fn chain(alloc: Global, members: &[usize]) -> Result<Node, Memory> {
     let mut list = List::new(alloc);
     for member in members {
         list.push(if *member == 999 { None } else { Some(*member) })?;
@@ -14,7 +14,7 @@ fn chain(alloc: Global, members: &[u32]) -> Result<Node, Memory> {
 }
 
 // A stage, then chains of these members.
-fn nodes_of(alloc: Global, chains: &[&[u32]]) -> Result<List<Node>, Memory> {
+fn nodes_of(alloc: Global, chains: &[&[usize]]) -> Result<List<Node>, Memory> {
     let mut nodes = List::new(alloc);
     nodes.push(Node::Stage)?;
     for members in chains {
@@ -24,24 +24,17 @@ fn nodes_of(alloc: Global, chains: &[&[u32]]) -> Result<List<Node>, Memory> {
 }
 
 fn flats(alloc: Global, nodes: &List<Node>) -> Result<List<Flat>, Fail> {
-    let nodes = nodes.as_slice();
-    if nodes.len() > 1_000 {
-        return Err(Fail::from("few nodes"));
-    }
-    Ok(flatten(alloc, nodes)?)
+    Ok(flatten(alloc, nodes.as_slice())?)
 }
 
-// The states of these middlewares, few as they are.
+// The states of these middlewares.
 fn states(alloc: Global, nodes: &List<Node>) -> Result<List<State>, Fail> {
     let nodes = nodes.as_slice();
-    if nodes.len() > 1_000 {
-        return Err(Fail::from("few nodes"));
-    }
     let flats = flatten(alloc, nodes)?;
     Ok(states_of(alloc, nodes, flats.as_slice())?)
 }
 
-fn are(alloc: Global, chains: &[&[u32]], wanted: &[State]) -> Result<bool, Fail> {
+fn are(alloc: Global, chains: &[&[usize]], wanted: &[State]) -> Result<bool, Fail> {
     let nodes = nodes_of(alloc, chains)?;
     let found = states(alloc, &nodes)?;
     Ok(found.as_slice() == wanted)
@@ -77,7 +70,7 @@ fn first_faults(rt: HostRuntime) -> Result<(), Fail> {
 }
 
 // Chains of which each has the one before it as a member, so many times.
-fn ladder(alloc: Global, count: u32, times: u32) -> Result<List<Node>, Memory> {
+fn ladder(alloc: Global, count: usize, times: u32) -> Result<List<Node>, Memory> {
     let mut nodes = List::new(alloc);
     nodes.push(Node::Stage)?;
     for below in 0..count {
@@ -116,7 +109,7 @@ fn hostile_graphs_take_no_time(rt: HostRuntime) -> Result<(), Fail> {
     assert_eq!(rt; doubled.get(500), Some(&CHILD));
     // 500 in one cycle.
     let mut ring = List::new(alloc);
-    for place in 0..500u32 {
+    for place in 0..500usize {
         let mut members = List::new(alloc);
         members.push(Some((place + 1) % 500))?;
         ring.push(Node::Chain(members))?;

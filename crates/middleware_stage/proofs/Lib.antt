@@ -1,4 +1,5 @@
 pub mod Escapes
+pub mod Lawful
 pub mod Ranges
 pub mod Rewrites
 pub mod Urls

@@ -4,7 +4,8 @@ use Rattle.dyn_config.specs.declared.middleware.MiddlewareDef.{MiddlewareDef}
 use Rattle.px_base.specs.Bytes.{one_more}
 use Rattle.rule_eval.specs.Patterns.{IsPatternText}
 use Rattle.middleware_stage.specs.Faults.{Blames, Counts, IsUsable, HasReadable, pattern_count}
-use Rattle.middleware_stage.specs.Views.{stage_def, regex_text, replacement_text}
+use Rattle.middleware_stage.specs.Stage.{stage_def}
+use Rattle.middleware_stage.specs.Views.{regex_text, replacement_text}
 use Rattle.middleware_stage.specs.declared.building.BuiltRewrite.{BuiltRewrite}
 use Rattle.middleware_stage.specs.declared.building.BuiltRewrite.TheVariants as rewrite
 use Rattle.middleware_stage.specs.declared.stage.BuiltStage.{BuiltStage}
@@ -30,6 +31,11 @@ abbrev pub BuildsRewrite : List ℕ → List ℕ → ℕ → ℕ → BuiltRewrit
 BuildsRewrite regex replacement old new (rewrite.Rewrite r) =
     (regex_text r ≡ regex) × (replacement_text r ≡ replacement) × IsPatternText regex × (new ≡ old)
 BuildsRewrite regex replacement old new (rewrite.Fault f) = BlamesPattern regex f × Counts old new f
+
+-- the middleware as it was declared
+abbrev pub IsStageOf : MiddlewareDef → BuiltStage → Type 0
+IsStageOf def (built.Stage s) = stage_def s ≡ def
+IsStageOf def (built.Fault f) = ⊥
 
 -- the middleware as it was declared, or what is wrong with its pattern
 abbrev pub BuildsFit : MiddlewareDef → ℕ → ℕ → BuiltStage → Type 0

@@ -1,20 +1,26 @@
 -- Why one middleware, which is no chain, can't be used.
-use Rattle.std.specs.Prelude.{◌≡◌, ℕ, ◌<◌, ◌≤◌, ◌⊎◌, ◌==◌, Bool, true, false, not, ◌&&◌, ◌||◌, List, length, codes, Any, IsTrue, IsUtf8, Option, Some, None}
-use Rattle.std.specs.List.{list_all}
-use Rattle.dyn_config.specs.Values.{is_field_name, is_field_value}
+use Rattle.std.specs.Prelude.{◌≡◌, ℕ, ◌<◌, ◌≤◌, ◌⊎◌, Bool, true, false, List, length, Any, IsUtf8, Option, Some, None}
 use Rattle.dyn_config.specs.declared.middleware.MiddlewareDef.{MiddlewareDef}
 use Rattle.dyn_config.specs.declared.middleware.MiddlewareDef.TheVariants.{AddPrefix, StripPrefix, ReplacePath, ReplacePathRegex, Headers, IpAllowList, Chain, Buffering, RedirectScheme, RedirectRegex, Unsupported}
-use Rattle.head_view.specs.Lines.{Line as Field, has_name}
-use Rattle.http_wire.specs.Fields.{is_hop_by_hop}
 use Rattle.px_base.specs.Bytes.{one_more}
 use Rattle.rule_eval.specs.Faults.{IsNetwork}
 use Rattle.rule_eval.specs.Patterns.{IsPatternText}
+use Rattle.middleware_stage.specs.Lawful.{has_lawful_lines}
 use Rattle.middleware_stage.specs.declared.stage.StageFault.{StageFault}
 use Rattle.middleware_stage.specs.declared.stage.StageFault.TheVariants as fault
 
 abbrev pub is_chain : MiddlewareDef → Bool
 is_chain (Chain _) = true
-is_chain _ = false
+is_chain (AddPrefix _) = false
+is_chain (StripPrefix _ _) = false
+is_chain (ReplacePath _) = false
+is_chain (ReplacePathRegex _ _) = false
+is_chain (Headers _ _ _) = false
+is_chain (IpAllowList _ _) = false
+is_chain (Buffering _ _) = false
+is_chain (RedirectScheme _ _ _) = false
+is_chain (RedirectRegex _ _ _) = false
+is_chain Unsupported = false
 
 -- an option, or the whole kind, isn't supported
 abbrev pub is_unsupported : MiddlewareDef → Bool
@@ -23,18 +29,14 @@ is_unsupported (Headers _ _ unsupported) = unsupported
 is_unsupported (IpAllowList _ unsupported) = unsupported
 is_unsupported (Buffering _ unsupported) = unsupported
 is_unsupported Unsupported = true
-is_unsupported _ = false
+is_unsupported (AddPrefix _) = false
+is_unsupported (ReplacePath _) = false
+is_unsupported (ReplacePathRegex _ _) = false
+is_unsupported (Chain _) = false
+is_unsupported (RedirectScheme _ _ _) = false
+is_unsupported (RedirectRegex _ _ _) = false
 
--- the fields that say how long a message is and whether its connection goes on: the proxy's own
-abbrev pub is_framing_name : Field → Bool
-is_framing_name line = has_name (codes "Content-Length") line || has_name (codes "Connection") line || has_name (codes "Transfer-Encoding") line
-
--- a line that may be set, or removed where its value is empty: no matter of framing, and none of one connection alone is set
-abbrev pub is_settable : Field → Bool
-is_settable line =
-    is_field_name line.0 && is_field_value line.1 && not (is_framing_name line) && (length line.1 == 0 || not (is_hop_by_hop line))
-
--- the pattern and the template that each of its matches is replaced by
+-- the pattern has more than 512 bytes, or the template that each of its matches is replaced by isn't UTF-8
 abbrev pub IsBadRewrite : List ℕ → List ℕ → Type 0
 IsBadRewrite regex replacement = (512 < length regex) ⊎ (¬ (IsUtf8 replacement))
 
@@ -42,7 +44,7 @@ IsBadRewrite regex replacement = (512 < length regex) ⊎ (¬ (IsUtf8 replacemen
 abbrev pub HasBadValue : MiddlewareDef → Type 0
 HasBadValue (ReplacePathRegex regex replacement) = IsBadRewrite regex replacement
 HasBadValue (RedirectRegex regex replacement _) = IsBadRewrite regex replacement
-HasBadValue (Headers request response _) = ¬ (IsTrue (list_all is_settable request && list_all is_settable response))
+HasBadValue (Headers request response unsupported) = has_lawful_lines (Headers request response unsupported) ≡ false
 HasBadValue (IpAllowList ranges _) = Any (λ range. ¬ (IsNetwork range)) ranges
 HasBadValue (AddPrefix _) = ⊥
 HasBadValue (StripPrefix _ _) = ⊥
@@ -56,7 +58,15 @@ HasBadValue Unsupported = ⊥
 abbrev pub pattern_of : MiddlewareDef → Option (List ℕ)
 pattern_of (ReplacePathRegex regex _) = Some regex
 pattern_of (RedirectRegex regex _ _) = Some regex
-pattern_of _ = None
+pattern_of (AddPrefix _) = None
+pattern_of (StripPrefix _ _) = None
+pattern_of (ReplacePath _) = None
+pattern_of (Headers _ _ _) = None
+pattern_of (IpAllowList _ _) = None
+pattern_of (Chain _) = None
+pattern_of (Buffering _ _) = None
+pattern_of (RedirectScheme _ _ _) = None
+pattern_of Unsupported = None
 
 abbrev pub count_some : Option (List ℕ) → ℕ
 count_some None = 0

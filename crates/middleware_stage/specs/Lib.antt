@@ -2,6 +2,8 @@ pub mod Built
 pub mod Effects
 pub mod Faults
 pub mod Flows
+pub mod Lawful
 pub mod Paths
 pub mod Redirects
+pub mod Stage
 pub mod Views

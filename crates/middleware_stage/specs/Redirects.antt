@@ -42,7 +42,7 @@ by_scheme scheme port q = elsewhere q (Some (scheme_url scheme port q))
 abbrev pub by_regex : List ℕ → List ℕ → Request → Option (List ℕ)
 by_regex regex replacement q = elsewhere q (rewritten regex replacement (url q))
 
--- a client repeats a GET as it was in any case, and other methods where the status says so
+-- 301 and 308 are permanent; 307 and 308 ask the client to keep its method, which it does with GET in any case
 abbrev pub redirect_status : Bool → List ℕ → ℕ
 redirect_status permanent method =
     if bytes_eq method (codes "GET") then (if permanent then 301 else 302) else (if permanent then 308 else 307)

@@ -1,4 +1,4 @@
--- What a contract sees of a built middleware: how it was declared.
+-- What a middleware of a kind was declared as.
 use Rattle.std.specs.Prelude.{ℕ, false, List, map, string_bytes}
 use Rattle.dyn_config.specs.declared.middleware.MiddlewareDef.{MiddlewareDef}
 use Rattle.dyn_config.specs.declared.middleware.MiddlewareDef.TheVariants as middleware
@@ -7,7 +7,6 @@ use Rattle.middleware_stage.specs.declared.range.Range.{Range}
 use Rattle.middleware_stage.specs.declared.stage.Rewrite.{Rewrite}
 use Rattle.middleware_stage.specs.declared.stage.Kind.{Kind}
 use Rattle.middleware_stage.specs.declared.stage.Kind.TheVariants as kind
-use Rattle.middleware_stage.specs.declared.stage.Stage.{Stage}
 
 abbrev pub range_texts : List Range → List (List ℕ)
 range_texts ranges = map (λ r. r.text) ranges
@@ -28,7 +27,3 @@ kind_def (kind.IpAllowList ranges) = middleware.IpAllowList (range_texts ranges)
 kind_def (kind.Buffering max_body) = middleware.Buffering max_body false
 kind_def (kind.RedirectScheme scheme port permanent) = middleware.RedirectScheme scheme port permanent
 kind_def (kind.RedirectRegex rewrite permanent) = middleware.RedirectRegex (regex_text rewrite) (replacement_text rewrite) permanent
-
--- the middleware as it was declared
-abbrev pub stage_def : Stage → MiddlewareDef
-stage_def stage = kind_def stage.kind

@@ -3,7 +3,8 @@ ghost use Rattle.std.specs.Prelude.{◌≡◌, ◌↔◌, IsTrue, IfOk, option_m
 ghost use Rattle.rule_eval.specs.Truth.{IsPeerIn};
 ghost use Rattle.middleware_stage.specs.Effects.{IsAllowed, body_limit_of, is_longer as is_longer_than, is_over as is_over_limit};
 ghost use Rattle.middleware_stage.specs.Flows.{Flows, GuardFlows, LimitFlows, RedirectFlows};
-ghost use Rattle.middleware_stage.specs.Views.{range_texts, stage_def};
+ghost use Rattle.middleware_stage.specs.Stage.{stage_def};
+ghost use Rattle.middleware_stage.specs.Views.{range_texts};
 
 use crate::headers::change_request;
 use crate::paths::location_of;

@@ -1,8 +1,9 @@
 //! A middleware, made of its declaration.
-ghost use Rattle.std.specs.Prelude.{◌≡◌, ◌≤◌, ◌↔◌, false, Any, IfOk, IsTrue, IsUtf8, string_bytes};
+ghost use Rattle.std.specs.Prelude.{◌≡◌, ◌≤◌, ◌↔◌, true, false, Any, IfOk, IsTrue, IsUtf8, string_bytes};
 ghost use Rattle.rule_eval.specs.Faults.{IsNetwork};
-ghost use Rattle.middleware_stage.specs.Built.{Builds, BuildsFit, BuildsRewrite};
+ghost use Rattle.middleware_stage.specs.Built.{Builds, BuildsFit, BuildsRewrite, IsStageOf};
 ghost use Rattle.middleware_stage.specs.Faults.{HasBadValue, IsBadRewrite, is_chain as is_of_others, is_unsupported as lacks_support, pattern_count, pattern_of};
+ghost use Rattle.middleware_stage.specs.Lawful.{has_lawful_lines};
 ghost use Rattle.middleware_stage.specs.Views.{kind_def, range_texts};
 
 use crate::copies::{copied, copied_lines, copied_texts};
@@ -29,7 +30,15 @@ pub fn patterns_of(def: &MiddlewareDef) -> u32
     match def {
         MiddlewareDef::ReplacePathRegex { .. } => 1,
         MiddlewareDef::RedirectRegex { .. } => 1,
-        _ => 0,
+        MiddlewareDef::AddPrefix { .. } => 0,
+        MiddlewareDef::StripPrefix { .. } => 0,
+        MiddlewareDef::ReplacePath { .. } => 0,
+        MiddlewareDef::Headers { .. } => 0,
+        MiddlewareDef::IpAllowList { .. } => 0,
+        MiddlewareDef::Chain { .. } => 0,
+        MiddlewareDef::Buffering { .. } => 0,
+        MiddlewareDef::RedirectScheme { .. } => 0,
+        MiddlewareDef::Unsupported => 0,
     }
 }
 
@@ -72,7 +81,12 @@ fn is_unsupported(def: &MiddlewareDef) -> bool
         MiddlewareDef::IpAllowList { unsupported, .. } => *unsupported,
         MiddlewareDef::Buffering { unsupported, .. } => *unsupported,
         MiddlewareDef::Unsupported => true,
-        _ => false,
+        MiddlewareDef::AddPrefix { .. } => false,
+        MiddlewareDef::ReplacePath { .. } => false,
+        MiddlewareDef::ReplacePathRegex { .. } => false,
+        MiddlewareDef::Chain { .. } => false,
+        MiddlewareDef::RedirectScheme { .. } => false,
+        MiddlewareDef::RedirectRegex { .. } => false,
     }
 }
 
@@ -95,7 +109,13 @@ fn has_bad_value(def: &MiddlewareDef) -> bool
             ..
         } => !(are_settable(request) && are_settable(response)),
         MiddlewareDef::IpAllowList { ranges, .. } => has_bad_range(ranges),
-        _ => false,
+        MiddlewareDef::AddPrefix { .. } => false,
+        MiddlewareDef::StripPrefix { .. } => false,
+        MiddlewareDef::ReplacePath { .. } => false,
+        MiddlewareDef::Chain { .. } => false,
+        MiddlewareDef::Buffering { .. } => false,
+        MiddlewareDef::RedirectScheme { .. } => false,
+        MiddlewareDef::Unsupported => false,
     }
 }
 
@@ -141,12 +161,25 @@ fn build_fit<S: PatternShop>(
             })),
             BuiltRewrite::Fault(fault) => Ok(BuiltStage::Fault(fault)),
         },
-        _ => Ok(built(plain_kind(alloc, def)?)),
+        _ => build_plain(alloc, def),
     }
 }
 
+// Builds a middleware without a pattern.
+fn build_plain(alloc: Global, def: &MiddlewareDef) -> Result<BuiltStage, Memory>
+    requires plain { pattern_of def.now ≡ None }
+    requires single { is_of_others def.now ≡ false }
+    requires supported { lacks_support def.now ≡ false }
+    requires valued { ¬ (HasBadValue def.now) }
+    ensures { IfOk result (IsStageOf def.now) }
+{
+    let kind = plain_kind(alloc, def)?;
+    Ok(built(kind))
+}
+
 fn built(kind: Kind) -> BuiltStage
-    ensures { result ≡ BuiltStage.Stage (record { kind = kind }) }
+    requires { has_lawful_lines (kind_def kind) ≡ true }
+    ensures { IsStageOf (kind_def kind) result }
 {
     BuiltStage::Stage(Stage { kind })
 }
@@ -185,8 +218,10 @@ fn plain_kind(alloc: Global, def: &MiddlewareDef) -> Result<Kind, Memory>
         MiddlewareDef::Buffering { max_body, .. } => Ok(Kind::Buffering {
             max_body: *max_body,
         }),
-        // Only kinds with a pattern, chains and unsupported kinds are left.
-        _ => Ok(Kind::Buffering { max_body: 0 }),
+        MiddlewareDef::ReplacePathRegex { .. } => unreachable!(),
+        MiddlewareDef::RedirectRegex { .. } => unreachable!(),
+        MiddlewareDef::Chain { .. } => unreachable!(),
+        MiddlewareDef::Unsupported => unreachable!(),
     }
 }
 

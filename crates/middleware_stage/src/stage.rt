@@ -1,4 +1,8 @@
 //! A built middleware, why one can't be built, and what one does to a request.
+ghost use Rattle.std.specs.Prelude.{◌≡◌, true};
+ghost use Rattle.middleware_stage.specs.Lawful.{has_lawful_lines};
+ghost use Rattle.middleware_stage.specs.Views.{kind_def};
+
 use crate::range::Range;
 use http_wire::Request;
 use px_base::{Bytes, List};
@@ -19,10 +23,11 @@ pub enum StageFault {
     TooBig,
 }
 
-/// What one middleware does. Contracts know it by its declaration, `stage_def`.
+/// What one middleware does. Contracts know it by its declaration, `stage_def`. Each line that it sets or removes may be.
 #[derive(Drop)]
 pub struct Stage {
     pub(crate) kind: Kind,
+    pub(crate) ghost lawful: { has_lawful_lines (kind_def kind) ≡ true },
 }
 
 // A pattern, and the template that each of its matches is replaced by.

@@ -3,7 +3,8 @@ ghost use Rattle.std.specs.Prelude.{◌≡◌, ◌↔◌, IsTrue, IsUtf8};
 ghost use Rattle.std.specs.List.{list_all};
 ghost use Rattle.head_view.specs.Lines.{has_name};
 ghost use Rattle.http_wire.specs.Fields.{is_hop_by_hop as has_connection_name};
-ghost use Rattle.middleware_stage.specs.Faults.{is_framing_name, is_settable as may_be_set, IsBadRewrite};
+ghost use Rattle.middleware_stage.specs.Faults.{IsBadRewrite};
+ghost use Rattle.middleware_stage.specs.Lawful.{is_framing_name, is_settable as may_be_set};
 
 use px_base::{Bytes, List, fold_equal};
 
