@@ -5,8 +5,8 @@ use Rattle.std.specs.List.{AllByRecursion}
 use Rattle.std.specs.declared.alloc.AllocError.{AllocError}
 use Rattle.std.proofs.lemmas.List.{append-nil, append_assoc}
 use Rattle.link_world.specs.declared.note.Note.{Note}
-use Rattle.link_world.specs.Log.{Event, closed, on, noted, stop}
-use Rattle.link_world.specs.Seen.{Seen, CloseDid, NoteDid, StopDid}
+use Rattle.link_world.specs.Log.{Event, closed, on, noted}
+use Rattle.link_world.specs.Seen.{Seen, CloseDid, NoteDid}
 use Rattle.link_world.specs.declared.note.EndCause.{EndCause}
 use Rattle.conn_machine.specs.Reached.{EndsBy, IsTold}
 use Rattle.conn_machine.specs.declared.parts.Phase.{Phase}
@@ -45,21 +45,18 @@ pub tells_close : (old : Seen) (link : ℕ) (new : Seen) → CloseDid old link n
 tells_close old link new did = by (old.is_open link) refl
   where
     by : (b : Bool) → old.is_open link ≡ b → OnlyTells old new
-    by true is = record { ran = closed link ∷ []; log = ap (λ (s : Seen). s.log) (did.0 is).same; farewells = (tt, tt) }
+    by true is = record { ran = closed link old.now ∷ []; log = ap (λ (s : Seen). s.log) (did.0 is).same; farewells = (tt, tt) }
     by false is = tells_same old new (did.1 is)
 
 pub tells_release : (c : Conn) (old : Seen) (link : ℕ) (new : Seen) → Released c link old new → OnlyTells old new
-tells_release c old link new (inl same) = tells_same old new same
+tells_release c old link new (inl (ex, same)) = tells_same old new same
 tells_release c old link new (inr (over, did)) = tells_close old link new did
 
 pub tells_note : (old : Seen) (note : Note) (x : Unit {0}) (new : Seen) → NoteDid old note (Ok x) new → OnlyTells old new
-tells_note old note x new is = record { ran = on note.link (noted note) ∷ []; log = ap (λ (s : Seen). s.log) is; farewells = (tt, tt) }
+tells_note old note x new is = record { ran = on note.link old.now (noted note) ∷ []; log = ap (λ (s : Seen). s.log) is; farewells = (tt, tt) }
 
 pub tells_refused : (old : Seen) (note : Note) (e : AllocError) (new : Seen) → NoteDid old note (Err e) new → OnlyTells old new
 tells_refused old note e new (n, more, is) = record { ran = []; log = ap (λ (s : Seen). s.log) is ∙ once old.log; farewells = tt }
-
-pub tells_stop : (old new : Seen) → StopDid old true new → OnlyTells old new
-tells_stop old new (n, more, is) = record { ran = stop ∷ []; log = ap (λ (s : Seen). s.log) is; farewells = (tt, tt) }
 
 -- an end that is told, and its cause
 pub told_by : (p : Phase) (cause : EndCause) → EndsBy cause p → IsTold p → p ≡ Told cause

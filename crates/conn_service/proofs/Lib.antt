@@ -1,4 +1,5 @@
 pub mod Lists
+pub mod Plainly
 pub mod Worlds
 pub mod Desks
 pub mod Wents
@@ -7,3 +8,4 @@ pub mod Calms
 pub mod Stretches
 pub mod Completions
 pub mod Farewells
+pub mod Leaves

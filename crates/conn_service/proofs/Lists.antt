@@ -1,18 +1,18 @@
 -- Lists, logs and steps.
-use Rattle.std.proofs.Common.{◌≡◌, ◌≢◌, ◌⊎◌, ℕ, ◌≤◌, ◌==◌, List, [], ◌∷◌, ◌++◌, Option, Some, None, refl, sym, ◌∙◌, ap, subst, inl, inr, arith, true, false, Bool}
+use Rattle.std.proofs.Common.{◌≡◌, ◌≢◌, ◌⊎◌, ℕ, ◌<◌, ◌≤◌, ◌==◌, List, [], ◌∷◌, ◌++◌, Option, Some, None, refl, sym, ◌∙◌, ap, subst, inl, inr, arith, true, false, Bool}
 use Rattle.std.specs.Prelude.{IfSome}
 use Rattle.std.specs.List.{AllByRecursion, Contains}
 use Rattle.std.proofs.lemmas.List.{append-nil, append_assoc}
 use Rattle.std.proofs.lemmas.List.Concat.{flat_map-append}
 use Rattle.std.proofs.lemmas.List.Elements.{Contains-append_left}
 use Rattle.std.proofs.lemmas.Bool.Decides.{nat_tests}
-use Rattle.link_world.specs.Log.{Event, LinkEvent, is_of, happening, history_of, only_if, notes, note_by, IsFresh}
+use Rattle.link_world.specs.Log.{Event, LinkEvent, is_of, happening, history_of, failure, failures_of, only_if, notes, note_by, IsFresh}
 use Rattle.conversation.specs.Plans.{Plan}
-use Rattle.conversation.specs.Steps.{Step, history, failures, history_by, failures_by, pins_by, looks_by, picks_by, IsNew}
+use Rattle.conversation.specs.Steps.{Step, history, failures, history_by, failures_by, pins_by, looks_by, picks_by, spents_by, IsNew}
 use Rattle.link_world.specs.declared.note.Look.{Look}
 use Rattle.link_world.specs.declared.note.NodePick.{NodePick}
 use Rattle.desk.specs.Desks.{Grew}
-use Rattle.conn_service.specs.Choices.{last_of, last_number, looks_under, picks_under}
+use Rattle.conn_service.specs.Choices.{last_of, last_number, looks_under, picks_under, spents_under}
 use Rattle.conn_service.specs.Pins.{IsBelow}
 use Rattle.conn_service.specs.Went.{extended}
 
@@ -66,6 +66,9 @@ fresh_before (Some log) ran link h = all_front (λ e. is_of link e ≡ false) lo
 pub ran-append : (link : ℕ) (a b : List Event) → history_of link (a ++ b) ≡ history_of link a ++ history_of link b
 ran-append link a b = flat_map-append (happening link) a b
 
+pub faults-append : (link : ℕ) (a b : List Event) → failures_of link (a ++ b) ≡ failures_of link a ++ failures_of link b
+faults-append link a b = flat_map-append (failure link) a b
+
 pub history-append : (link : ℕ) (a b : List Step) → history link (a ++ b) ≡ history link a ++ history link b
 history-append link a b = flat_map-append (history_by link) a b
 
@@ -110,6 +113,11 @@ picks-append k n [] b = refl
 picks-append k n (s ∷ a) b = ap (λ (l : List NodePick). only_if (k == n) (picks_by s) ++ l) (picks-append k (last_of n (pins_by s)) a b)
     ∙ sym (append_assoc (only_if (k == n) (picks_by s)) (picks_under k (last_of n (pins_by s)) a) (picks_under k (last_number (last_of n (pins_by s)) a) b))
 
+pub spents-append : (k n : ℕ) (a b : List Step) → spents_under k n (a ++ b) ≡ spents_under k n a ++ spents_under k (last_number n a) b
+spents-append k n [] b = refl
+spents-append k n (s ∷ a) b = ap (λ (l : List ℕ). only_if (k == n) (spents_by s) ++ l) (spents-append k (last_of n (pins_by s)) a b)
+    ∙ sym (append_assoc (only_if (k == n) (spents_by s)) (spents_under k (last_of n (pins_by s)) a) (spents_under k (last_number (last_of n (pins_by s)) a) b))
+
 pub not_false : {b : Bool} → b ≡ true → b ≡ false → ⊥
 not_false {b} yes_ no_ = cc
 
@@ -127,3 +135,13 @@ unlooked k n s none ls = sym (ap (λ (l : List Look). ls ++ (only_if (k == n) l 
 
 pub unpicked : (k n : ℕ) (s : Step) → picks_by s ≡ [] → (ls : List NodePick) → ls ≡ ls ++ picks_under k n (s ∷ [])
 unpicked k n s none ls = sym (ap (λ (l : List NodePick). ls ++ (only_if (k == n) l ++ [])) none ∙ ap (λ (l : List NodePick). ls ++ (l ++ [])) (only_none (k == n)) ∙ append-nil ls)
+
+-- a step that tells of no refused draw
+pub unspent : (k n : ℕ) (s : Step) → spents_by s ≡ [] → spents_under k n (s ∷ []) ≡ []
+unspent k n s none = ap (λ (l : List ℕ). only_if (k == n) l ++ []) none ∙ ap (λ (l : List ℕ). l ++ []) (only_none (k == n))
+
+pub no_elements : {X : Type 0} (x : X) → Contains [] x → ⊥
+no_elements x c = no_number c.1
+  where
+    no_number : {k : ℕ} → k < 0 → ⊥
+    no_number h = omega arith

@@ -1,15 +1,16 @@
 -- What serving a connection does, one step after another.
 use Rattle.std.proofs.Common.{◌≡◌, ◌≢◌, ◌⊎◌, ⊎_elim, ℕ, ◌≤◌, List, [], ◌∷◌, ◌++◌, Option, Some, None, refl, sym, ◌∙◌, ap, subst, inl, inr, arith, true, false, Bool}
 use Rattle.std.specs.Prelude.{Result, Ok, Err, OnErr}
+use Rattle.std.specs.List.{AllByRecursion}
 use Rattle.std.proofs.lemmas.List.{append-nil, append_assoc}
 use Rattle.std.proofs.lemmas.List.Concat.{flat_map-append}
 use Rattle.link_world.specs.Log.{Event, LinkEvent, on, dialled, noted, note_by, notes, only_if}
-use Rattle.link_world.specs.Seen.{Seen, Rose, with_event, Faulted, Came, CloseDid}
+use Rattle.link_world.specs.Seen.{Seen, with_link_event, Faulted, Came, CloseDid}
 use Rattle.link_world.specs.Lately.{Lately, OnlyAt}
 use Rattle.link_world.specs.declared.note.Note.{Note}
 use Rattle.desk.specs.Desks.{Desk, Grew}
 use Rattle.conversation.specs.Plans.{Plan}
-use Rattle.conversation.specs.Steps.{Step, happened, failed, stopped, history, failures, stops, stops_by, IsNew, pins_by, looks_by, picks_by}
+use Rattle.conversation.specs.Steps.{Step, happened, failed, stopped, history, failures, stops, stops_by, IsNew}
 use Rattle.conversation.specs.Turns.{Turn, BackLink, IsLinkTold, IsShown}
 use Rattle.conversation.specs.Served.{IfLast, IsAnswered}
 use Rattle.conn_machine.specs.Reached.{Reached, IsOpen, IsNotOver, IsTold, KeepsServer, IsEnding, Waits, WantsNode, IsUnended, PhaseHolds, pending_of}
@@ -24,11 +25,12 @@ use Rattle.conn_machine.specs.declared.parts.Stage.TheVariants as stage
 use Rattle.conn_machine.specs.declared.conn.Conn.{Conn}
 use Rattle.conn_service.specs.Moments.{Moment, moment, IsHeld, IsExchanging, Linked, Given, Owns, Stands, IsTracked, IsElse, IsReady}
 use Rattle.conn_service.specs.Pins.{DeskWent}
-use Rattle.conn_service.specs.Arrivals.{is_arrival, arrivals}
+use Rattle.conn_service.specs.Arrivals.{arrivals, dials}
 use Rattle.conn_service.specs.Went.{extended, WorldWent, ConnWent, Went, Lost}
 use Rattle.conn_service.specs.Released.{Released, IsServer}
-use Rattle.conn_service.proofs.Lists.{none_in_neither, extended_none, new_both, no_steps, not_false, not_before, grew_below}
-use Rattle.conn_service.proofs.Worlds.{given_more, given_later, owns_more, world_then, SeenAt, Alone, world_at, seen_same, seen_event, seen_fault, seen_closed, seen_came, alone_event, alone_failed, alone_closed, alone_none, only_none, same_at}
+use Rattle.conn_service.proofs.Lists.{all_weaker, none_in_neither, extended_none, new_both, no_steps, not_false, not_before, grew_below}
+use Rattle.conn_service.proofs.Plainly.{is_coming, no_arrival, no_dial}
+use Rattle.conn_service.proofs.Worlds.{given_more, given_later, owns_more, world_then, world_weaker, SeenAt, Alone, world_at, seen_same, seen_event, seen_fault, seen_closed, seen_came, alone_event, alone_failed, alone_closed, alone_none, only_none, same_at}
 use Rattle.conn_service.proofs.Desks.{desk_then, desk_none, desk_step}
 
 -- the steps that a connection stands at go on
@@ -149,13 +151,13 @@ linked_still h keeps = linked_kept h (λ l is. is) (λ l is. is) keeps
 -- one step of the world on one link that was given before, and of the machine
 pub went_step : {S : Type 0} {link : ℕ} {s t : Seen} {l m : Lately} {f : Desk} {c d : Conn} {ran : List Event} {did : List Step}
     → Linked s c → Keeps c d → ((k : ℕ) → k ≡ link → Owns s t c k) → s.come link ≡ true → SeenAt link s t → ((k : ℕ) → s.is_open k ≡ true → t.is_open k ≡ true) → OnlyAt link l m
-    → t.log ≡ extended s.log ran → Alone link c.client.link ran did → arrivals ran ≡ [] → (failures link did ≢ [] → Rose (s.faults link) (t.faults link))
+    → t.log ≡ extended s.log ran → Alone link c.client.link s.now ran did → arrivals ran ≡ [] → dials ran ≡ []
     → DeskWent f f c.current.number d.current.number did → ((steps : List Step) → Reached steps c → Reached (steps ++ did) d) → (stops did ≢ [] → S)
     → Went S (moment s l f c) (moment t m f d)
-went_step {S} {link} {s} {t} {l} {m} {f} {c} {d} {ran} {did} linked keeps owns come seen is_open only log alone none_came fails desk reached stopping = record {
+went_step {S} {link} {s} {t} {l} {m} {f} {c} {d} {ran} {did} linked keeps owns come seen is_open only log alone none_came none_dialled desk reached stopping = record {
   ran = ran;
   did = did;
-  world = world_weaker owns (world_at (seen.come link come) seen only log alone none_came (λ g. absurd (not_false come g.before)) fails);
+  world = world_weaker owns (world_at (seen.come link come) seen only log alone none_came (subst (λ (ls : List ℕ). AllByRecursion (Given s t) ls) (sym none_dialled) tt) (λ g. absurd (not_false come g.before)));
   conn = record {
     reached = λ steps h. reached steps h.reached;
     client = keeps.client;
@@ -165,24 +167,6 @@ went_step {S} {link} {s} {t} {l} {m} {f} {c} {d} {ran} {did} linked keeps owns c
   };
   desk = desk;
 }
-  where
-    world_weaker : {P Q : ℕ → Type 0} {x y : Moment} {a : List Event} {b : List Step} → ((k : ℕ) → P k → Q k) → WorldWent P x y a b → WorldWent Q x y a b
-    world_weaker {P} {Q} {x} {y} {a} {b} f w = record {
-      log = w.log;
-      shows = w.shows;
-      noted = w.noted;
-      none_came = w.none_came;
-      others = λ k un. w.others k (λ p. un (f k p));
-      come = w.come;
-      fresh = w.fresh;
-      unlogged = w.unlogged;
-      failed = w.failed;
-      faults = w.faults;
-      stops = w.stops;
-      waits_failed = w.waits_failed;
-      clocked = w.clocked;
-      no_more = w.no_more;
-    }
 
 -- the client's link, or the server's
 pub data IsOurs (s : Seen) (c : Conn) (link : ℕ) : Type 0 where
@@ -197,31 +181,21 @@ pub ours_come : {s : Seen} {c : Conn} {link : ℕ} → Linked s c → IsOurs s c
 ours_come {s} {c} {link} h (of_client is) = subst (λ (n : ℕ). s.come n ≡ true) (sym is) h.come
 ours_come {s} {c} {link} h (of_server ex is) = subst (λ (n : ℕ). s.come n ≡ true) (sym is) (h.server ex).come
 
--- a step that tells nothing of the desk and of no stop
-pub record IsPlain (s : Step) : Type 0 where
-  pub pins : pins_by s ≡ []
-  pub looks : looks_by s ≡ []
-  pub picks : picks_by s ≡ []
-  pub stops : stops_by s ≡ []
-
-none_stops : {S : Type 0} (s : Step) → stops_by s ≡ [] → stops (s ∷ []) ≢ [] → S
-none_stops s none some = absurd (some (ap (λ (l : List (Unit {0})). l ++ []) none))
-
 -- an event of a link, of which the machine was told
-pub went_event : {s t : Seen} {l m : Lately} {f : Desk} {c d : Conn} (link : ℕ) (e : LinkEvent) → Linked s c → IsOurs s c link → (link ≢ c.client.link → note_by e ≡ []) → is_arrival e ≡ false
-    → t ≡ with_event s (on link e) → OnlyAt link l m → Keeps c d → ((steps : List Step) → Reached steps c → Reached (steps ++ happened link e ∷ []) d)
+pub went_event : {s t : Seen} {l m : Lately} {f : Desk} {c d : Conn} (link : ℕ) (e : LinkEvent) → Linked s c → IsOurs s c link → (link ≢ c.client.link → note_by e ≡ []) → is_coming e ≡ false
+    → t ≡ with_link_event s link e → OnlyAt link l m → Keeps c d → ((steps : List Step) → Reached steps c → Reached (steps ++ happened link e ∷ []) d)
     → Went ⊥ (moment s l f c) (moment t m f d)
 went_event {s} {t} {l} {m} {f} {c} {d} link e linked ours none other is only keeps reached =
-    went_step linked keeps (ours_owned ours) (ours_come linked ours) (seen_event link (on link e) is) (λ k h. ap (λ (u : Seen). u.is_open k) is ∙ h) only
-    (ap (λ (u : Seen). u.log) is) (alone_event link c.client.link e none) (ap (λ (b : Bool). only_if b (link ∷ []) ++ []) other) (λ some. absurd (some refl)) (desk_step f (happened link e) refl refl refl keeps.number) reached (λ some. absurd (some refl))
+    went_step linked keeps (ours_owned ours) (ours_come linked ours) (seen_event link (on link s.now e) is) (λ k h. ap (λ (u : Seen). u.is_open k) is ∙ h) only
+    (ap (λ (u : Seen). u.log) is) (alone_event link c.client.link s.now e none) (no_arrival link s.now e other) (no_dial link s.now e other) (desk_step f (happened link e) refl refl refl refl keeps.number) reached (λ some. absurd (some refl))
 
 -- a link failed, and the machine was told
 pub went_fault : {s t : Seen} {l m : Lately} {f : Desk} {c d : Conn} (link : ℕ) → Linked s c → IsOurs s c link
     → Faulted s link t → OnlyAt link l m → Keeps c d → ((steps : List Step) → Reached steps c → Reached (steps ++ failed link ∷ []) d)
     → Went ⊥ (moment s l f c) (moment t m f d)
-went_fault {s} {t} {l} {m} {f} {c} {d} link linked ours fault only keeps reached =
-    went_step linked keeps (ours_owned ours) (ours_come linked ours) (seen_fault fault) (λ k h. ap (λ (u : Seen). u.is_open k) fault.same ∙ h) only
-    (ap (λ (u : Seen). u.log) fault.same ∙ extended_none s.log) (alone_failed link c.client.link) refl (λ some. fault.rose) (desk_step f (failed link) refl refl refl keeps.number) reached (λ some. absurd (some refl))
+went_fault {s} {t} {l} {m} {f} {c} {d} link linked ours did only keeps reached =
+    went_step linked keeps (ours_owned ours) (ours_come linked ours) (seen_fault did) (λ k h. ap (λ (u : Seen). u.is_open k) did.same ∙ h) only
+    (ap (λ (u : Seen). u.log) did.same) (alone_failed link c.client.link s.now) refl refl (desk_step f (failed link) refl refl refl refl keeps.number) reached (λ some. absurd (some refl))
 
 -- a link had nothing to give or no room, and the machine has the same work
 pub went_quiet : {s t : Seen} {l m : Lately} {f : Desk} {c d : Conn} (link : ℕ) → Linked s c → IsOurs s c link
@@ -229,7 +203,7 @@ pub went_quiet : {s t : Seen} {l m : Lately} {f : Desk} {c d : Conn} (link : ℕ
     → Went ⊥ (moment s l f c) (moment t m f d)
 went_quiet {s} {t} {l} {m} {f} {c} {d} link linked ours is only keeps reached =
     went_step linked keeps (ours_owned ours) (ours_come linked ours) (seen_same link is) (λ k h. ap (λ (u : Seen). u.is_open k) is ∙ h) only
-    (ap (λ (u : Seen). u.log) is ∙ extended_none s.log) (alone_none link c.client.link [] (λ k. no_steps k)) refl (λ some. absurd (some refl)) (desk_none f keeps.number)
+    (ap (λ (u : Seen). u.log) is ∙ extended_none s.log) (alone_none link c.client.link s.now [] (λ k. no_steps k)) refl refl (desk_none f keeps.number)
     (λ steps r. subst (λ (x : List Step). Reached x d) (sym (append-nil steps)) (reached steps r)) (λ some. absurd (some refl))
 
 -- nothing but the machine changed
@@ -245,7 +219,7 @@ pub went_stop : {s : Seen} {l : Lately} {f : Desk} {c d : Conn} → Linked s c �
     → Went (Unit {0}) (moment s l f c) (moment s l f d)
 went_stop {s} {l} {f} {c} {d} linked keeps reached =
     went_step linked keeps (ours_owned (of_client refl)) linked.come (seen_same c.client.link refl) (λ k h. h) (only_none c.client.link l)
-    (extended_none s.log) (alone_none c.client.link c.client.link (stopped ∷ []) (λ k. record { quiet = refl; sound = refl })) refl (λ some. absurd (some refl)) (desk_step f stopped refl refl refl keeps.number) reached (λ some. tt)
+    (extended_none s.log) (alone_none c.client.link c.client.link s.now (stopped ∷ []) (λ k. record { quiet = refl; sound = refl })) refl refl (desk_step f stopped refl refl refl refl keeps.number) reached (λ some. tt)
 
 -- the desk and the machine alone
 pub went_desk : {s : Seen} {l : Lately} {f g : Desk} {c d : Conn} {did : List Step} → Linked s c → d.client ≡ c.client → (d.phase ≡ Open → c.phase ≡ Open) → KeepsServer c d
@@ -258,13 +232,17 @@ went_desk {s} {l} {f} {g} {c} {d} {did} linked client opened server none unstopp
     log = extended_none s.log;
     shows = λ k. (none k).quiet;
     noted = λ k ne. ap notes (none k).quiet;
+    failed = λ k. (none k).sound;
+    serving = tt;
     none_came = refl;
+    dialled = tt;
     others = λ k un. record { quiet = tt; untold = none k; come = refl; is_open = refl; faults = refl; lately = same_at k l };
     come = λ k h. h;
     fresh = λ k h. none k;
     unlogged = λ k g. absurd (not_false g.after g.before);
-    failed = λ k some. absurd (some (none k).sound);
+    shut = λ k given is. is;
     faults = λ k. omega arith;
+    now = refl;
     stops = refl;
     waits_failed = omega arith;
     clocked = refl;
@@ -294,11 +272,11 @@ pub went_dial : {s t : Seen} {l m : Lately} {f : Desk} {c d : Conn} {host : List
     → ((steps : List Step) → IsNew link steps → Reached steps c → Reached (steps ++ happened link (dialled host port) ∷ []) d)
     → Went ⊥ (moment s l f c) (moment t m f d)
 went_dial {s} {t} {l} {m} {f} {c} {d} {host} {port} link linked came same opened client number server reached = record {
-  ran = on link (dialled host port) ∷ [];
+  ran = on link s.now (dialled host port) ∷ [];
   did = happened link (dialled host port) ∷ [];
   world = world_weaker (λ k is. inr (inr (subst (λ (n : ℕ). Given s t n) (sym is) given)))
       (world_at came.come (seen_came came) (subst (λ (x : Lately). OnlyAt link l x) (sym same) (only_none link l)) (ap (λ (u : Seen). u.log) came.same)
-      (alone_event link c.client.link (dialled host port) (λ ne. refl)) refl (λ g. came.fresh) (λ some. absurd (some refl)));
+      (alone_event link c.client.link s.now (dialled host port) (λ ne. refl)) refl (given, tt) (λ g. came.fresh));
   conn = record {
     reached = λ steps h. reached steps (h.fresh link came.not_come) h.reached;
     client = client;
@@ -311,7 +289,7 @@ went_dial {s} {t} {l} {m} {f} {c} {d} {host} {port} link linked came same opened
     };
     stopped = λ some. absurd (some refl);
   };
-  desk = desk_step f (happened link (dialled host port)) refl refl refl number;
+  desk = desk_step f (happened link (dialled host port)) refl refl refl refl number;
 }
   where
     given : Given s t link
@@ -319,24 +297,6 @@ went_dial {s} {t} {l} {m} {f} {c} {d} {host} {port} link linked came same opened
 
     other : c.client.link ≢ link
     other is = not_false (subst (λ (n : ℕ). s.come n ≡ true) is linked.come) came.not_come
-
-    world_weaker : {P Q : ℕ → Type 0} {x y : Moment} {a : List Event} {b : List Step} → ((k : ℕ) → P k → Q k) → WorldWent P x y a b → WorldWent Q x y a b
-    world_weaker {P} {Q} {x} {y} {a} {b} f w = record {
-      log = w.log;
-      shows = w.shows;
-      noted = w.noted;
-      none_came = w.none_came;
-      others = λ k un. w.others k (λ p. un (f k p));
-      come = w.come;
-      fresh = w.fresh;
-      unlogged = w.unlogged;
-      failed = w.failed;
-      faults = w.faults;
-      stops = w.stops;
-      waits_failed = w.waits_failed;
-      clocked = w.clocked;
-      no_more = w.no_more;
-    }
 
 -- and then a link of it was closed, unless it was closed before
 pub went_close : {S : Type 0} {x : Moment} {t u : Seen} {m n : Lately} {f : Desk} {d : Conn} (link : ℕ) (a : Went S x (moment t m f d)) → Owns x.seen t x.conn link → t.come link ≡ true
@@ -354,11 +314,11 @@ went_close {S} {x} {t} {u} {m} {n} {f} {d} link a owns come did only client idle
 
     by : (b : Bool) → t.is_open link ≡ b → Went S x (moment u n f d)
     by true is = let c = did.0 is in let seen : SeenAt link t u = seen_closed c in
-        went_join (λ k. k ≡ link) a (world_at {f = f} {c = d} (seen.come link come) seen only (ap (λ (v : Seen). v.log) c.same) (alone_closed link d.client.link) refl (λ g. absurd (not_false come g.before)) (λ some. absurd (some refl)))
+        went_join (λ k. k ≡ link) a (world_at {f = f} {c = d} (seen.come link come) seen only (ap (λ (v : Seen). v.log) c.same) (alone_closed link d.client.link t.now) refl tt (λ g. absurd (not_false come g.before)))
         (λ k same. owns_more seen.come (subst (λ (i : ℕ). Owns x.seen t x.conn i) (sym same) owns))
         (stays seen.come (λ open_. seen.others_open d.client.link (client open_) ∙ a.conn.linked.client open_)) (desk_none f refl)
     by false is = let same_seen = did.1 is in let seen : SeenAt link t u = seen_same link same_seen in
-        went_join (λ k. k ≡ link) a (world_at {f = f} {c = d} (seen.come link come) seen only (ap (λ (v : Seen). v.log) same_seen ∙ extended_none t.log) (alone_none link d.client.link [] (λ k. no_steps k)) refl (λ g. absurd (not_false come g.before)) (λ some. absurd (some refl)))
+        went_join (λ k. k ≡ link) a (world_at {f = f} {c = d} (seen.come link come) seen only (ap (λ (v : Seen). v.log) same_seen ∙ extended_none t.log) (alone_none link d.client.link t.now [] (λ k. no_steps k)) refl tt (λ g. absurd (not_false come g.before)))
         (λ k same. owns_more seen.come (subst (λ (i : ℕ). Owns x.seen t x.conn i) (sym same) owns))
         (stays seen.come (λ open_. seen.others_open d.client.link (client open_) ∙ a.conn.linked.client open_)) (desk_none f refl)
 
@@ -366,9 +326,9 @@ went_close {S} {x} {t} {u} {m} {n} {f} {d} link a owns come did only client idle
 pub went_released : {S : Type 0} {x : Moment} {t u : Seen} {m n : Lately} {f : Desk} {d : Conn} (link : ℕ) (a : Went S x (moment t m f d)) → Owns x.seen t x.conn link → t.come link ≡ true
     → link ≢ x.conn.client.link → Released d link t u → OnlyAt link m n → Went S x (moment u n f d)
 went_released {S} {x} {t} {u} {m} {n} {f} {d} link a owns come apart (inr (idle, did)) only = went_close link a owns come did only (λ is same. apart (sym same ∙ ap (λ (k : Client). k.link) a.conn.client)) idle
-went_released {S} {x} {t} {u} {m} {n} {f} {d} link a owns come apart (inl same_seen) only =
+went_released {S} {x} {t} {u} {m} {n} {f} {d} link a owns come apart (inl (ex, same_seen)) only =
     let seen : SeenAt link t u = seen_same link same_seen in
-    went_join (λ k. k ≡ link) a (world_at {f = f} {c = d} (seen.come link come) seen only (ap (λ (v : Seen). v.log) same_seen ∙ extended_none t.log) (alone_none link d.client.link [] (λ k. no_steps k)) refl (λ g. absurd (not_false come g.before)) (λ some. absurd (some refl)))
+    went_join (λ k. k ≡ link) a (world_at {f = f} {c = d} (seen.come link come) seen only (ap (λ (v : Seen). v.log) same_seen ∙ extended_none t.log) (alone_none link d.client.link t.now [] (λ k. no_steps k)) refl tt (λ g. absurd (not_false come g.before)))
     (λ k same. owns_more seen.come (subst (λ (i : ℕ). Owns x.seen t x.conn i) (sym same) owns))
     (record {
       reached = λ steps h. subst (λ (l : List Step). Reached l d) (sym (append-nil steps)) h.reached;
@@ -386,10 +346,10 @@ went_let_go {S} {s} {t} {u} {l} {m} {n} {f} {g} {c} {d} link linked server a rel
     (λ same. linked.apart server.0 (sym server.1 ∙ same)) released only
 
 -- a note was told
-pub went_note : {s t : Seen} {l m : Lately} {f : Desk} {c d : Conn} (note : Note) → Linked s c → note.link ≡ c.client.link → t ≡ with_event s (on note.link (noted note)) → m ≡ l → Keeps c d
+pub went_note : {s t : Seen} {l m : Lately} {f : Desk} {c d : Conn} (note : Note) → Linked s c → note.link ≡ c.client.link → t ≡ with_link_event s note.link (noted note) → m ≡ l → Keeps c d
     → ((steps : List Step) → Reached steps c → Reached (steps ++ happened c.client.link (noted note) ∷ []) d) → Went ⊥ (moment s l f c) (moment t m f d)
 went_note {s} {t} {l} {m} {f} {c} {d} note linked of is same keeps reached =
-    went_event c.client.link (noted note) linked (of_client refl) (λ ne. absurd (ne refl)) refl (subst (λ (i : ℕ). t ≡ with_event s (on i (noted note))) of is)
+    went_event c.client.link (noted note) linked (of_client refl) (λ ne. absurd (ne refl)) refl (subst (λ (i : ℕ). t ≡ with_link_event s i (noted note)) of is)
     (subst (λ (x : Lately). OnlyAt c.client.link l x) (sym same) (only_none c.client.link l)) keeps reached
 
 -- the note was refused
@@ -401,13 +361,17 @@ went_unnoted {S} {x} {t} {u} {m} {f} {d} {k} w more is = subst (λ (v : Seen). W
     log = w.world.log;
     shows = w.world.shows;
     noted = w.world.noted;
+    failed = w.world.failed;
+    serving = w.world.serving;
     none_came = w.world.none_came;
+    dialled = all_weaker (Given x.seen t) (Given x.seen (record t { waits_failed = k })) (dials w.ran) (λ l g. record { before = g.before; after = g.after }) w.world.dialled;
     others = λ l un. let s = w.world.others l (λ o. un (owns_more (λ n h. h) o)) in record { quiet = s.quiet; untold = s.untold; come = s.come; is_open = s.is_open; faults = s.faults; lately = s.lately };
     come = w.world.come;
     fresh = w.world.fresh;
     unlogged = λ l g. w.world.unlogged l (record { before = g.before; after = g.after });
-    failed = w.world.failed;
+    shut = w.world.shut;
     faults = w.world.faults;
+    now = w.world.now;
     stops = w.world.stops;
     waits_failed = omega (arith, w.world.waits_failed, more);
     clocked = w.world.clocked;
@@ -535,8 +499,8 @@ pub server_given : {s : Seen} (c : Conn) {link : ℕ} → Linked s c → IsServe
 server_given {s} c {link} linked server = subst (λ (i : ℕ). s.is_open i ≡ true) (sym server.1) (linked.server server.0).is_open
 
 -- an event of the link to the server
-pub went_server : {s t : Seen} {l m : Lately} {f : Desk} {c d : Conn} (link : ℕ) (e : LinkEvent) → Linked s c → IsServer c (Some link) → note_by e ≡ [] → is_arrival e ≡ false
-    → t ≡ with_event s (on link e) → OnlyAt link l m → Keeps c d → ((steps : List Step) → Reached steps c → Reached (steps ++ happened c.current.link e ∷ []) d)
+pub went_server : {s t : Seen} {l m : Lately} {f : Desk} {c d : Conn} (link : ℕ) (e : LinkEvent) → Linked s c → IsServer c (Some link) → note_by e ≡ [] → is_coming e ≡ false
+    → t ≡ with_link_event s link e → OnlyAt link l m → Keeps c d → ((steps : List Step) → Reached steps c → Reached (steps ++ happened c.current.link e ∷ []) d)
     → Went ⊥ (moment s l f c) (moment t m f d)
 went_server {s} {t} {l} {m} {f} {c} {d} link e linked server none other is only keeps reached =
     went_event link e linked (of_server server.0 server.1) (λ ne. none) other is only keeps
@@ -605,7 +569,7 @@ tracked_new {s} {t} {e} link f c came reached = (
   happened link f ∷ [],
   record {
     reached = reached;
-    fresh = λ l none. let a : Alone link link (on link f ∷ []) (happened link f ∷ []) = alone_event link link f (λ ne. absurd (ne refl)) in
+    fresh = λ l none. let a : Alone link link 0 (on link 0 f ∷ []) (happened link f ∷ []) = alone_event link link 0 f (λ ne. absurd (ne refl)) in
         (a.quiet l (λ same. not_false (subst (λ (i : ℕ). t.come i ≡ true) (sym same) came.come) none)).1;
   },
 )

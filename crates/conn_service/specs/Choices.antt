@@ -1,10 +1,10 @@
--- Under which number each look and each pick was made: that of the last pin before it.
+-- Under which number each look, each pick and each refused draw was made: that of the last pin before it.
 use Rattle.std.specs.Prelude.{ℕ, ◌==◌, List, [], ◌∷◌, ◌++◌}
 use Rattle.link_world.specs.Log.{only_if}
 use Rattle.link_world.specs.declared.note.Look.{Look}
 use Rattle.link_world.specs.declared.note.NodePick.{NodePick}
 use Rattle.conversation.specs.Plans.{Plan}
-use Rattle.conversation.specs.Steps.{Step, pins_by, looks_by, picks_by}
+use Rattle.conversation.specs.Steps.{Step, pins_by, looks_by, picks_by, spents_by}
 
 -- the number of the last of these pins, or else this one
 abbrev pub last_of : ℕ → List Plan → ℕ
@@ -24,3 +24,8 @@ looks_under n number (s ∷ steps) = only_if (n == number) (looks_by s) ++ looks
 abbrev pub picks_under : ℕ → ℕ → List Step → List NodePick
 picks_under n number [] = []
 picks_under n number (s ∷ steps) = only_if (n == number) (picks_by s) ++ picks_under n (last_of number (pins_by s)) steps
+
+-- the nodes whose draw was refused under number n
+abbrev pub spents_under : ℕ → ℕ → List Step → List ℕ
+spents_under n number [] = []
+spents_under n number (s ∷ steps) = only_if (n == number) (spents_by s) ++ spents_under n (last_of number (pins_by s)) steps

@@ -47,6 +47,10 @@ pub record Given (old new : Seen) (link : ℕ) : Type 0 where
 abbrev pub Owns : Seen → Seen → Conn → ℕ → Type 0
 Owns old new c link = (link ≡ c.client.link) ⊎ (IsExchanging c × (link ≡ c.current.link)) ⊎ Given old new link
 
+-- the connection uses the link: its client's, or its server's while the exchange goes on
+abbrev pub Uses : Conn → ℕ → Type 0
+Uses c link = (link ≡ c.client.link) ⊎ (IsExchanging c × (link ≡ c.current.link))
+
 -- the connection was told these steps, and nothing of a link that the world hasn't given
 pub record Stands (s : Seen) (steps : List Step) (c : Conn) : Type 0 where
   pub reached : Reached steps c

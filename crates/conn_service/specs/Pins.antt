@@ -1,10 +1,11 @@
 -- What serving one connection does to a shared desk.
-use Rattle.std.specs.Prelude.{◌≡◌, ℕ, ◌+◌, ◌-◌, ◌^◌, ◌≤◌, min, List, [], ◌∷◌, ◌++◌, map, length}
+use Rattle.std.specs.Prelude.{◌≡◌, ℕ, ◌+◌, ◌-◌, ◌^◌, ◌≤◌, ◌<◌, min, List, [], ◌∷◌, ◌++◌, map, length}
 use Rattle.std.specs.List.{flat_map, AllByRecursion, Contains}
 use Rattle.conversation.specs.Plans.{Plan}
 use Rattle.conversation.specs.Steps.{Step, pins}
-use Rattle.desk.specs.Desks.{Desk, Grew, seat_at}
-use Rattle.conn_service.specs.Choices.{last_number, looks_under, picks_under}
+use Rattle.wrr_deadlines.specs.Reduced.{period_len}
+use Rattle.desk.specs.Desks.{Desk, Grew, seat_at, one_server}
+use Rattle.conn_service.specs.Choices.{last_number, looks_under, picks_under, spents_under}
 
 -- the number is at most each bound of the numbers of these
 abbrev pub IsBelow : List Plan → ℕ → Type 0
@@ -38,7 +39,8 @@ pub record Accounted (old new : Desk) (ours : List Plan) : Type 0 where
   pub own : flat_map kept_by marks ≡ ours
   pub counted : counted_on new.refused 0 ≡ counted_on old.refused (length (flat_map refused_by marks))
 
--- The desk after these steps of a connection, whose last pin had the number `from` before them and has `to` now.
+-- The desk after these steps of a connection, whose last pin had the number `from` before them and has `to` now. A
+-- draw was refused only where a period more would pass 2^62 pops.
 pub record DeskWent (old new : Desk) (from to : ℕ) (did : List Step) : Type 0 where
   pub grew : Grew old.generations new.generations
   pub held : AllByRecursion (Contains new.generations) (pins did)
@@ -47,3 +49,5 @@ pub record DeskWent (old new : Desk) (from to : ℕ) (did : List Step) : Type 0 
   pub pinned : Accounted old new (pins did)
   pub looks : (n : ℕ) → (seat_at new n).looks ≡ (seat_at old n).looks ++ looks_under n from did
   pub picks : (n : ℕ) → (seat_at new n).picks ≡ (seat_at old n).picks ++ picks_under n from did
+  pub counts : (n node : ℕ) → (seat_at old n).count node ≤ (seat_at new n).count node
+  pub spent : (n node : ℕ) → Contains (spents_under n from did) node → 2 ^ 62 < (seat_at new n).count node + period_len one_server

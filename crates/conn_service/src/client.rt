@@ -7,6 +7,7 @@ ghost use Rattle.conn_machine.specs.Prompt.{IsPrompt};
 ghost use Rattle.conn_machine.specs.Reached.{IsOpen, KeepsServer, pending_of};
 ghost use Rattle.conn_service.specs.Moments.{moment, Linked};
 ghost use Rattle.conn_service.specs.Went.{Went};
+ghost use Rattle.conn_service.specs.Released.{OnlyCloses};
 ghost use Rattle.conn_service.specs.Calm.{ReadDone};
 ghost use Rattle.conn_service.specs.Counts.{Counted, SameWork, Stays};
 ghost use Rattle.conn_service.specs.declared.turn.Reads.{Reads as ReadsOf};
@@ -31,6 +32,7 @@ pub(crate) fn receive<W: World>(
     requires counted { Counted reads.old (W.lately world.old) conn.old }
     ensures went { (g : Desk) → Went ⊥ (moment (W.seen world.old) (W.lately world.old) g conn.old)
         (moment (W.seen world.new) (W.lately world.new) g conn.new) }
+    ensures links { OnlyCloses (W.seen world.old) (W.seen world.new) }
     ensures server { KeepsServer conn.old conn.new }
     ensures prompt { OnOk result (IsPrompt conn.new) }
     ensures counted { Counted reads.new (W.lately world.new) conn.new }
@@ -130,6 +132,7 @@ pub(crate) fn answer<W: World>(
     requires { Linked (W.seen world.old) conn.old }
     ensures went { (g : Desk) → Went ⊥ (moment (W.seen world.old) (W.lately world.old) g conn.old)
         (moment (W.seen world.new) (W.lately world.new) g conn.new) }
+    ensures links { OnlyCloses (W.seen world.old) (W.seen world.new) }
     ensures server { KeepsServer conn.old conn.new }
     ensures prompt { IsPrompt conn.old → OnOk result (IsPrompt conn.new) }
     ensures counted { (r : ReadsOf) → Counted r (W.lately world.old) conn.old → Counted r (W.lately world.new) conn.new }
@@ -154,6 +157,7 @@ fn send<W: World>(conn: &mut Conn, alloc: Global, world: &mut W) -> Result<bool,
     requires room { vec_len conn.old.notes < vec_capacity conn.old.notes }
     ensures went { (g : Desk) → Went ⊥ (moment (W.seen world.old) (W.lately world.old) g conn.old)
         (moment (W.seen world.new) (W.lately world.new) g conn.new) }
+    ensures links { OnlyCloses (W.seen world.old) (W.seen world.new) }
     ensures server { KeepsServer conn.old conn.new }
     ensures prompt { IsPrompt conn.old → OnOk result (IsPrompt conn.new) }
     ensures counted { (r : ReadsOf) → Counted r (W.lately world.old) conn.old → Counted r (W.lately world.new) conn.new }

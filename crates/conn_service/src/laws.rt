@@ -3,7 +3,7 @@ ghost use Rattle.std.specs.Prelude.{◌≡◌, ◌++◌, ◌==◌, ℕ, List};
 ghost use Rattle.std.specs.List.{flat_map};
 ghost use Rattle.link_world.specs.Log.{only_if};
 ghost use Rattle.conversation.specs.Steps.{Step, looks, picks, pins};
-ghost use Rattle.conn_service.specs.Choices.{last_of, last_number, looks_under, picks_under};
+ghost use Rattle.conn_service.specs.Choices.{last_of, last_number, looks_under, picks_under, spents_under};
 ghost use Rattle.conn_service.specs.Stretches.{Stretch, IsCut};
 
 /// Steps can be cut before each pin.
@@ -28,6 +28,7 @@ pub fn picks_are_under_the_pin_before()
 pub fn choices_of_two_parts()
     ensures looks { (n before : ℕ) (a b : List Step) → looks_under n before (a ++ b) ≡ looks_under n before a ++ looks_under n (last_number before a) b }
     ensures picks { (n before : ℕ) (a b : List Step) → picks_under n before (a ++ b) ≡ picks_under n before a ++ picks_under n (last_number before a) b }
+    ensures spents { (n before : ℕ) (a b : List Step) → spents_under n before (a ++ b) ≡ spents_under n before a ++ spents_under n (last_number before a) b }
 {}
 
 /// The number after some steps is that of the last pin among them, or else the one before them.

@@ -1,11 +1,11 @@
 //! Links are closed once they are of no more use.
-ghost use Rattle.std.specs.Prelude.{◌≡◌, ◌↔◌, IsTrue, MatchOption};
+ghost use Rattle.std.specs.Prelude.{◌≡◌, ◌↔◌, IsTrue, MatchOption, false};
 ghost use Rattle.link_world.specs.Lately.{OnlyAt};
 ghost use Rattle.desk.specs.Desks.{Desk};
 ghost use Rattle.conn_machine.specs.Reached.{IsOpen};
 ghost use Rattle.conn_service.specs.Moments.{moment, IsExchanging, Linked};
 ghost use Rattle.conn_service.specs.Went.{Went};
-ghost use Rattle.conn_service.specs.Released.{Released, IsServer};
+ghost use Rattle.conn_service.specs.Released.{Released, IsServer, OnlyCloses};
 ghost use Rattle.conn_service.specs.Farewell.{OnlyTells};
 
 use conn_machine::{Conn, Phase, Stage};
@@ -42,6 +42,8 @@ pub(crate) fn hang_up<W: World>(conn: &Conn, world: &mut W)
     ensures went { (g : Desk) → Went ⊥ (moment (W.seen world.old) (W.lately world.old) g conn.now)
         (moment (W.seen world.new) (W.lately world.new) g conn.now) }
     ensures open { IsOpen conn.now → W.lately world.new ≡ W.lately world.old }
+    ensures links { OnlyCloses (W.seen world.old) (W.seen world.new) }
+    ensures closed { (IsOpen conn.now → ⊥) → (W.seen world.new).is_open conn.now.client.link ≡ false }
     ensures tells { OnlyTells (W.seen world.old) (W.seen world.new) }
 {
     if conn.is_open() {

@@ -6,6 +6,7 @@ ghost use Rattle.conn_machine.specs.Prompt.{IsPrompt};
 ghost use Rattle.conn_machine.specs.Reached.{IsOpen, KeepsServer, back_pending_of};
 ghost use Rattle.conn_service.specs.Moments.{moment, Linked, IsExchanging};
 ghost use Rattle.conn_service.specs.Went.{Went};
+ghost use Rattle.conn_service.specs.Released.{OnlyCloses, LeavesOpen};
 ghost use Rattle.conn_service.specs.Calm.{IsRead};
 ghost use Rattle.conn_service.specs.Counts.{Counted, Stays};
 ghost use Rattle.conn_service.specs.declared.turn.Reads.{Reads as ReadsOf};
@@ -22,6 +23,7 @@ pub(crate) fn dial<W: World>(conn: &mut Conn, alloc: Global, world: &mut W) -> R
     requires { Linked (W.seen world.old) conn.old }
     ensures went { (g : Desk) → Went ⊥ (moment (W.seen world.old) (W.lately world.old) g conn.old)
         (moment (W.seen world.new) (W.lately world.new) g conn.new) }
+    ensures leaves { LeavesOpen (W.seen world.old) conn.old (W.seen world.new) conn.new }
     ensures prompt { IsPrompt conn.old → OnOk result (IsPrompt conn.new) }
     ensures reads { (W.lately world.new).reads conn.old.client.link ≡ (W.lately world.old).reads conn.old.client.link }
 {
@@ -44,6 +46,7 @@ pub(crate) fn ask<W: World>(conn: &mut Conn, alloc: Global, world: &mut W) -> Re
     requires prompt { IsPrompt conn.old }
     ensures went { (g : Desk) → Went ⊥ (moment (W.seen world.old) (W.lately world.old) g conn.old)
         (moment (W.seen world.new) (W.lately world.new) g conn.new) }
+    ensures links { OnlyCloses (W.seen world.old) (W.seen world.new) }
     ensures server { KeepsServer conn.old conn.new }
     ensures prompt { OnOk result (IsPrompt conn.new) }
     ensures counted { (r : ReadsOf) → Counted r (W.lately world.old) conn.old → Counted r (W.lately world.new) conn.new }
@@ -84,6 +87,7 @@ pub(crate) fn hear<W: World>(
     requires counted { Counted reads.old (W.lately world.old) conn.old }
     ensures went { (g : Desk) → Went ⊥ (moment (W.seen world.old) (W.lately world.old) g conn.old)
         (moment (W.seen world.new) (W.lately world.new) g conn.new) }
+    ensures links { OnlyCloses (W.seen world.old) (W.seen world.new) }
     ensures server { KeepsServer conn.old conn.new }
     ensures prompt { OnOk result (IsPrompt conn.new) }
     ensures counted { Counted reads.new (W.lately world.new) conn.new }

@@ -1,5 +1,5 @@
 //! What a worker does with one connection in a turn, where it stops and where it finds no memory.
-ghost use Rattle.std.specs.Prelude.{◌≡◌, ◌⊎◌, ◌<◌, ◌≤◌, ℕ, [], IsTrue, OnOk, OnErr, OnSome, IfSome};
+ghost use Rattle.std.specs.Prelude.{◌≡◌, ◌⊎◌, ◌<◌, ◌≤◌, ℕ, [], false, IsTrue, OnOk, OnErr, OnSome, IfSome};
 ghost use Rattle.link_world.specs.Seen.{Seen, ReadDid};
 ghost use Rattle.link_world.specs.Lately.{Lately, ReadLately};
 ghost use Rattle.desk.specs.Desks.{Desk};
@@ -10,6 +10,7 @@ ghost use Rattle.conn_service.specs.Pins.{IsBelow};
 ghost use Rattle.conn_service.specs.Went.{Went, Lost};
 ghost use Rattle.conn_service.specs.Calm.{Calm};
 ghost use Rattle.conn_service.specs.Farewell.{OnlyTells};
+ghost use Rattle.conn_service.specs.Released.{OnlyCloses, LeavesOpen, LeavesClosed};
 ghost use Rattle.conn_service.specs.Counts.{Counted};
 
 use crate::client::{answer, read_client, room_for, take_read};
@@ -39,6 +40,8 @@ pub fn serve<R: Wait, W: World, S: Shared>(
         (moment (W.seen world.new) (W.lately world.new) (S.desk shared.new) conn.new)) }
     ensures lost { OnErr result (Lost ⊥ (moment (W.seen world.old) (W.lately world.old) (S.desk shared.old) conn.old)
         (W.seen world.new) (W.lately world.new) (S.desk shared.new)) }
+    ensures leaves { OnOk result (LeavesOpen (W.seen world.old) conn.old (W.seen world.new) conn.new) }
+    ensures closed { OnOk result (IsFinished conn.new → LeavesClosed (W.seen world.old) conn.old (W.seen world.new)) }
     ensures ready { OnOk result (IsFinished conn.new ⊎ IsReady (W.seen world.new) (S.desk shared.new).generations conn.new) }
     ensures told { OnOk result (conn.new.notes.items ≡ []) }
     ensures calm { OnOk result (Calm (W.lately world.new) conn.new) }
@@ -64,6 +67,8 @@ fn serve_busy<R: Wait, W: World, S: Shared>(
         (moment (W.seen world.new) (W.lately world.new) (S.desk shared.new) conn.new)) }
     ensures lost { OnErr result (Lost ⊥ (moment (W.seen world.old) (W.lately world.old) (S.desk shared.old) conn.old)
         (W.seen world.new) (W.lately world.new) (S.desk shared.new)) }
+    ensures leaves { OnOk result (LeavesOpen (W.seen world.old) conn.old (W.seen world.new) conn.new) }
+    ensures closed { OnOk result (IsFinished conn.new → LeavesClosed (W.seen world.old) conn.old (W.seen world.new)) }
     ensures ready { OnOk result (IsFinished conn.new ⊎ IsReady (W.seen world.new) (S.desk shared.new).generations conn.new) }
     ensures told { OnOk result (conn.new.notes.items ≡ []) }
     ensures calm { OnOk result (Calm (W.lately world.new) conn.new) }
@@ -93,6 +98,8 @@ fn serve_idle<R: Wait, W: World, S: Shared>(
         (moment (W.seen world.new) (W.lately world.new) (S.desk shared.new) conn.new)) }
     ensures lost { OnErr result (Lost ⊥ (moment (W.seen world.old) (W.lately world.old) (S.desk shared.old) conn.old)
         (W.seen world.new) (W.lately world.new) (S.desk shared.new)) }
+    ensures leaves { OnOk result (LeavesOpen (W.seen world.old) conn.old (W.seen world.new) conn.new) }
+    ensures closed { OnOk result (IsFinished conn.new → LeavesClosed (W.seen world.old) conn.old (W.seen world.new)) }
     ensures ready { OnOk result (IsFinished conn.new ⊎ IsReady (W.seen world.new) (S.desk shared.new).generations conn.new) }
     ensures told { OnOk result (conn.new.notes.items ≡ []) }
     ensures calm { OnOk result (Calm (W.lately world.new) conn.new) }
@@ -118,6 +125,7 @@ pub fn stop<W: World>(conn: &mut Conn, alloc: Global, world: &mut W) -> Result<(
         (moment (W.seen world.new) (W.lately world.new) g conn.new)) }
     ensures lost { (g : Desk) → OnErr result (Lost (Unit {0}) (moment (W.seen world.old) (W.lately world.old) g conn.old)
         (W.seen world.new) (W.lately world.new) g) }
+    ensures closed { LeavesClosed (W.seen world.old) conn.old (W.seen world.new) }
     ensures finished { OnOk result (IsFinished conn.new) }
     ensures stopped { IsOpen conn.old → OnOk result (conn.new.phase ≡ Phase.Told EndCause.Stopped) }
     ensures tells { OnlyTells (W.seen world.old) (W.seen world.new) }
@@ -134,6 +142,8 @@ pub fn quit<W: World>(conn: &mut Conn, alloc: Global, world: &mut W) -> Result<(
         (moment (W.seen world.new) (W.lately world.new) g conn.new)) }
     ensures lost { (g : Desk) → OnErr result (Lost ⊥ (moment (W.seen world.old) (W.lately world.old) g conn.old)
         (W.seen world.new) (W.lately world.new) g) }
+    ensures closed { LeavesClosed (W.seen world.old) conn.old (W.seen world.new) }
+    ensures stops { (W.seen world.new).stops ≡ (W.seen world.old).stops }
     ensures finished { OnOk result (IsFinished conn.new) }
 {
     give_up(conn, world);
@@ -156,6 +166,7 @@ fn attempt<R: Wait, W: World, S: Shared>(
     requires counted { Counted reads (W.lately world.old) conn.old }
     ensures went { Went ⊥ (moment (W.seen world.old) (W.lately world.old) (S.desk shared.old) conn.old)
         (moment (W.seen world.new) (W.lately world.new) (S.desk shared.new) conn.new) }
+    ensures leaves { LeavesOpen (W.seen world.old) conn.old (W.seen world.new) conn.new }
     ensures kept { IsOpen conn.new ⊎ IsEnding conn.new.phase }
     ensures calm { Calm (W.lately world.new) conn.new }
 {
@@ -182,12 +193,14 @@ fn attempt_after<R: Wait, W: World, S: Shared>(
     requires linked { Linked (W.seen world.old) conn.old }
     requires below { IsBelow (S.desk shared.old).generations conn.old.current.number }
     requires prompt { IsPrompt conn.old }
-    requires open { IsOpen conn.old }
+    requires waits { Waits Stage.Head conn.old }
     requires within { (n : ℕ) → read ≡ LinkRead.Got n → n ≤ 32768 }
     requires counted { Counted (record { client = 1; server = 0 }) (W.lately world.old) conn.old }
     ensures went { (s : Seen) (l : Lately) → Linked s conn.old → ReadDid s conn.old.client.link read buffer.old (W.seen world.old)
         → ReadLately l conn.old.client.link read (W.lately world.old)
         → Went ⊥ (moment s l (S.desk shared.old) conn.old) (moment (W.seen world.new) (W.lately world.new) (S.desk shared.new) conn.new) }
+    ensures leaves { (s : Seen) (l : Lately) → Linked s conn.old → ReadDid s conn.old.client.link read buffer.old (W.seen world.old)
+        → ReadLately l conn.old.client.link read (W.lately world.old) → LeavesOpen s conn.old (W.seen world.new) conn.new }
     ensures kept { IsOpen conn.new ⊎ IsEnding conn.new.phase }
     ensures calm { Calm (W.lately world.new) conn.new }
 {
@@ -211,6 +224,8 @@ fn give_up<W: World>(conn: &mut Conn, world: &mut W)
     requires { Linked (W.seen world.old) conn.old }
     ensures went { (g : Desk) → Went ⊥ (moment (W.seen world.old) (W.lately world.old) g conn.old)
         (moment (W.seen world.new) (W.lately world.new) g conn.new) }
+    ensures leaves { LeavesOpen (W.seen world.old) conn.old (W.seen world.new) conn.new }
+    ensures links { OnlyCloses (W.seen world.old) (W.seen world.new) }
     ensures over { IsEnding conn.new.phase }
 {
     let server = server_of(conn);
@@ -225,6 +240,8 @@ fn halt<W: World>(conn: &mut Conn, world: &mut W)
     requires { Linked (W.seen world.old) conn.old }
     ensures went { (g : Desk) → Went (Unit {0}) (moment (W.seen world.old) (W.lately world.old) g conn.old)
         (moment (W.seen world.new) (W.lately world.new) g conn.new) }
+    ensures leaves { LeavesOpen (W.seen world.old) conn.old (W.seen world.new) conn.new }
+    ensures links { OnlyCloses (W.seen world.old) (W.seen world.new) }
     ensures over { IsEnding conn.new.phase }
     ensures stopped { IsOpen conn.old → EndsBy EndCause.Stopped conn.new.phase }
     ensures tells { OnlyTells (W.seen world.old) (W.seen world.new) }
@@ -249,6 +266,9 @@ fn close_and_tell<W: World>(conn: &mut Conn, alloc: Global, world: &mut W) -> Re
         (moment (W.seen world.new) (W.lately world.new) g conn.new)) }
     ensures lost { (g : Desk) → OnErr result (Lost ⊥ (moment (W.seen world.old) (W.lately world.old) g conn.old)
         (W.seen world.new) (W.lately world.new) g) }
+    ensures leaves { OnOk result (LeavesOpen (W.seen world.old) conn.old (W.seen world.new) conn.new) }
+    ensures links { OnlyCloses (W.seen world.old) (W.seen world.new) }
+    ensures closed { (IsOpen conn.old → ⊥) → (W.seen world.new).is_open conn.old.client.link ≡ false }
     ensures lately { IsOpen conn.old → W.lately world.new ≡ W.lately world.old }
     ensures told { OnOk result (conn.new.notes.items ≡ []) }
     ensures open { OnOk result (IsOpen conn.old → conn.new ≡ record conn.old { notes = conn.new.notes }) }
@@ -269,6 +289,7 @@ fn tell<W: World>(conn: &mut Conn, alloc: Global, world: &mut W) -> Result<(), M
         (moment (W.seen world.new) (W.lately world.new) g conn.new)) }
     ensures lost { (g : Desk) → OnErr result (Lost ⊥ (moment (W.seen world.old) (W.lately world.old) g conn.old)
         (W.seen world.new) (W.lately world.new) g) }
+    ensures links { OnlyCloses (W.seen world.old) (W.seen world.new) }
     ensures lately { W.lately world.new ≡ W.lately world.old }
     ensures told { OnOk result (conn.new.notes.items ≡ []) }
     ensures open { OnOk result (IsOpen conn.old → conn.new ≡ record conn.old { notes = conn.new.notes }) }

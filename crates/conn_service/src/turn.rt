@@ -6,6 +6,7 @@ ghost use Rattle.conn_machine.specs.Reached.{IsOpen};
 ghost use Rattle.conn_service.specs.Moments.{moment, Linked};
 ghost use Rattle.conn_service.specs.Pins.{IsBelow};
 ghost use Rattle.conn_service.specs.Went.{Went};
+ghost use Rattle.conn_service.specs.Released.{OnlyCloses, LeavesOpen};
 ghost use Rattle.conn_service.specs.Calm.{Calm, IsStanding};
 ghost use Rattle.conn_service.specs.Counts.{Counted, Stays};
 
@@ -55,6 +56,7 @@ pub(crate) fn work<R: Wait, W: World, S: Shared>(
     requires counted { Counted reads (W.lately world.old) conn.old }
     ensures went { Went ⊥ (moment (W.seen world.old) (W.lately world.old) (S.desk shared.old) conn.old)
         (moment (W.seen world.new) (W.lately world.new) (S.desk shared.new) conn.new) }
+    ensures leaves { LeavesOpen (W.seen world.old) conn.old (W.seen world.new) conn.new }
     ensures calm { OnOk result (Calm (W.lately world.new) conn.new) }
 {
     for _ in rt.forever() {
@@ -86,6 +88,7 @@ fn round<R: Wait, W: World, S: Shared>(
     requires counted { Counted reads.old (W.lately world.old) conn.old }
     ensures went { Went ⊥ (moment (W.seen world.old) (W.lately world.old) (S.desk shared.old) conn.old)
         (moment (W.seen world.new) (W.lately world.new) (S.desk shared.new) conn.new) }
+    ensures leaves { LeavesOpen (W.seen world.old) conn.old (W.seen world.new) conn.new }
     ensures prompt { OnOk result (IsPrompt conn.new) }
     ensures counted { OnOk result (Counted reads.new (W.lately world.new) conn.new) }
     ensures calm { IfOk result (λ moved. moved ≡ false → Calm (W.lately world.new) conn.new) }
@@ -120,6 +123,7 @@ fn listen<W: World>(
     requires counted { Counted reads.old (W.lately world.old) conn.old }
     ensures went { (g : Desk) → Went ⊥ (moment (W.seen world.old) (W.lately world.old) g conn.old)
         (moment (W.seen world.new) (W.lately world.new) g conn.new) }
+    ensures links { OnlyCloses (W.seen world.old) (W.seen world.new) }
     ensures prompt { OnOk result (IsPrompt conn.new) }
     ensures counted { Counted reads.new (W.lately world.new) conn.new }
     ensures calm { IfOk result (λ moved. moved ≡ false → Calm (W.lately world.new) conn.new) }
@@ -144,6 +148,7 @@ fn pass<W: World>(
     requires counted { Counted reads.old (W.lately world.old) conn.old }
     ensures went { (g : Desk) → Went ⊥ (moment (W.seen world.old) (W.lately world.old) g conn.old)
         (moment (W.seen world.new) (W.lately world.new) g conn.new) }
+    ensures leaves { LeavesOpen (W.seen world.old) conn.old (W.seen world.new) conn.new }
     ensures prompt { OnOk result (IsPrompt conn.new) }
     ensures counted { Counted reads.new (W.lately world.new) conn.new }
     ensures calm { IfOk result (λ moved. moved ≡ false → Calm (W.lately world.new) conn.new) }
@@ -173,6 +178,7 @@ fn pass_once<W: World>(
     requires counted { Counted reads.old (W.lately world.old) conn.old }
     ensures went { (g : Desk) → Went ⊥ (moment (W.seen world.old) (W.lately world.old) g conn.old)
         (moment (W.seen world.new) (W.lately world.new) g conn.new) }
+    ensures links { OnlyCloses (W.seen world.old) (W.seen world.new) }
     ensures prompt { OnOk result (IsPrompt conn.new) }
     ensures counted { Counted reads.new (W.lately world.new) conn.new }
     ensures calm { IfOk result (λ moved. moved ≡ false → Calm (W.lately world.new) conn.new) }

@@ -2,9 +2,9 @@ use Rattle.std.proofs.Common.{refl, sym, ◌∙◌, subst}
 use Rattle.conn_machine.specs.declared.parts.Current.{Current}
 use Rattle.desk.specs.Desks.{IsAttended}
 use Rattle.conversation.specs.Steps.{drew, spent}
-use Rattle.conn_service.proofs.Lists.{no_steps}
+use Rattle.conn_service.proofs.Lists.{no_steps, no_elements}
 use Rattle.conn_service.proofs.Wents.{went_same, went_none, went_then, went_desk, keeps_same, linked_still, idle_at, reached_still, prompt_dial, waits_still, wants_still}
-use Rattle.conn_service.proofs.Desks.{desk_drew, desk_undrawn, first_child}
+use Rattle.conn_service.proofs.Desks.{desk_drew, desk_undrawn, first_child, spent_here}
 use Rattle.conn_service.proofs.choose.draw.Goals as goal
 
 pub returns-in_default-clause-went : goal.returns-in_default-clause-went
@@ -39,7 +39,7 @@ returns-in-Pick-clause-went g c = λ s l linked.
     let keeps = keeps_same c.reserve.ensures.client c.reserve.ensures.current c.reserve.ensures.phase c.reserve.ensures.stage in
     went_then (went_none linked keeps c.reserve.ensures.reached)
     (went_desk (linked_still linked keeps) c.drew.ensures.client (λ is. c.reserve.ensures.phase ∙ c.in-Walk.ensures.0.phase) (idle_at c.drew.ensures.waits (λ is. cc))
-    (λ k. record { quiet = refl; sound = refl }) refl (desk_drew (drew _) c.in-Pick.ensures.seat c.in-Pick.ensures.drawn refl refl refl c.drew.ensures.number) c.drew.ensures.reached)
+    (λ k. record { quiet = refl; sound = refl }) refl (desk_drew (drew _) c.in-Pick.ensures.seat c.in-Pick.ensures.drawn refl refl refl (λ k held. absurd (no_elements k held)) c.drew.ensures.number) c.drew.ensures.reached)
 
 pub returns-in-NoneUp-clause-went : goal.returns-in-NoneUp-clause-went
 returns-in-NoneUp-clause-went g c = λ s l linked.
@@ -53,7 +53,7 @@ returns-in-Spent-clause-went g c = λ s l linked.
     let keeps = keeps_same c.reserve.ensures.client c.reserve.ensures.current c.reserve.ensures.phase c.reserve.ensures.stage in
     went_then (went_none linked keeps c.reserve.ensures.reached)
     (went_desk (linked_still linked keeps) c.spent.ensures.client (λ is. c.reserve.ensures.phase ∙ c.in-Walk.ensures.0.phase) c.spent.ensures.server
-    (λ k. record { quiet = refl; sound = refl }) refl (desk_drew (spent _) c.in-Spent.ensures.seat c.in-Spent.ensures.drawn refl refl refl c.spent.ensures.number) c.spent.ensures.reached)
+    (λ k. record { quiet = refl; sound = refl }) refl (desk_drew (spent _) c.in-Spent.ensures.seat c.in-Spent.ensures.drawn refl refl refl (spent_here c.in-Spent.ensures.drawn) c.spent.ensures.number) c.spent.ensures.reached)
 
 pub returns-in-Pick-clause-prompt : goal.returns-in-Pick-clause-prompt
 returns-in-Pick-clause-prompt g c = λ before. prompt_dial c.drew.ensures.waits

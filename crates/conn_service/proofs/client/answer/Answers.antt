@@ -2,6 +2,7 @@ use Rattle.std.proofs.Common.{refl, subst, sym, ℕ, ◌∙◌, ◌≡◌, List,
 use Rattle.conn_service.proofs.Lists.{not_false}
 use Rattle.conn_service.proofs.Wents.{went_same, went_none, went_then, keeps_same, keeps_server, server_then, linked_still}
 use Rattle.conn_service.proofs.Counts.{counted_same, stays_work, stays_then, work_same, if_ok, empty_of, some_of}
+use Rattle.conn_service.proofs.Leaves.{closes_same}
 use Rattle.conn_service.proofs.client.answer.Goals as goal
 
 pub returns-then-not-is_open-clause-went : goal.returns-then-not-is_open-clause-went
@@ -72,3 +73,15 @@ returns-clause-still g c = if_ok c.send.result (λ moved f e open_. let q = f e 
   })) q.0,
   λ some. q.1,
 )) c.send.ensures.still
+
+pub returns-then-not-is_open-clause-links : goal.returns-then-not-is_open-clause-links
+returns-then-not-is_open-clause-links g c = closes_same refl
+
+pub returns-then-is_empty-clause-links : goal.returns-then-is_empty-clause-links
+returns-then-is_empty-clause-links g c = closes_same refl
+
+pub returns-in_err-reserve-clause-links : goal.returns-in_err-reserve-clause-links
+returns-in_err-reserve-clause-links g c = closes_same refl
+
+pub returns-clause-links : goal.returns-clause-links
+returns-clause-links g c = c.send.ensures.links

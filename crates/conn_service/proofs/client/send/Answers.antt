@@ -2,6 +2,7 @@ use Rattle.std.proofs.Common.{refl, subst, sym, ℕ, List, length, ◌<◌, ◌�
 use Rattle.link_world.specs.Log.{took}
 use Rattle.conn_service.proofs.Wents.{went_event, went_fault, went_quiet, of_client, keeps_open, keeps_all, keeps_ending, ending_from, server_from, prompt_ending}
 use Rattle.conn_service.proofs.Counts.{counted_write, stays_write, work_same}
+use Rattle.conn_service.proofs.Leaves.{closes_same, closes_event, closes_fault}
 use Rattle.conn_service.proofs.client.send.Goals as goal
 
 pub write-requires-clause-given : goal.write-requires-clause-given
@@ -53,3 +54,15 @@ returns-in-Failed-clause-prompt g c = λ before. prompt_ending (ending_from c.fa
 
 pub returns-in-Failed-clause-counted : goal.returns-in-Failed-clause-counted
 returns-in-Failed-clause-counted g c = λ r h. counted_write c.in-Failed.ensures.lately c.fail.ensures.client (server_from (ending_from c.fail.ensures.over tt)) h
+
+pub returns-in_err-took-in-Took-clause-links : goal.returns-in_err-took-in-Took-clause-links
+returns-in_err-took-in-Took-clause-links g c = closes_event c.in-Took.ensures.seen.2
+
+pub returns-in_ok-took-in-Took-clause-links : goal.returns-in_ok-took-in-Took-clause-links
+returns-in_ok-took-in-Took-clause-links g c = closes_event c.in-Took.ensures.seen.2
+
+pub returns-in-NotYet-clause-links : goal.returns-in-NotYet-clause-links
+returns-in-NotYet-clause-links g c = closes_same c.in-NotYet.ensures.seen
+
+pub returns-in-Failed-clause-links : goal.returns-in-Failed-clause-links
+returns-in-Failed-clause-links g c = closes_fault c.in-Failed.ensures.seen

@@ -2,6 +2,7 @@ use Rattle.conn_service.proofs.Farewells.{tells_none, tells_close}
 use Rattle.std.proofs.Common.{refl, inl}
 use Rattle.conn_service.proofs.Wents.{went_same, went_close}
 use Rattle.conn_service.proofs.Lists.{not_false}
+use Rattle.conn_service.proofs.Leaves.{closes_same, closes_close, close_shut}
 use Rattle.conn_service.proofs.links.hang_up.Goals as goal
 
 pub returns-then-is_open-clause-went : goal.returns-then-is_open-clause-went
@@ -16,3 +17,15 @@ returns-then-is_open-clause-tells g c = tells_none (g.W.World.seen c.args.world.
 
 pub returns-clause-tells : goal.returns-clause-tells
 returns-clause-tells g c = tells_close (g.W.World.seen c.args.world.now) c.args.conn.now.client.link (g.W.World.seen c.close.new.self) c.close.ensures.seen
+
+pub returns-then-is_open-clause-links : goal.returns-then-is_open-clause-links
+returns-then-is_open-clause-links g c = closes_same refl
+
+pub returns-clause-links : goal.returns-clause-links
+returns-clause-links g c = closes_close (g.W.World.seen c.args.world.now) (g.W.World.seen c.close.new.self) c.args.conn.now.client.link c.close.ensures.seen
+
+pub returns-then-is_open-clause-closed : goal.returns-then-is_open-clause-closed
+returns-then-is_open-clause-closed g c = λ no_. absurd (no_ (c.is_open.ensures.0 c.if-is_open.true))
+
+pub returns-clause-closed : goal.returns-clause-closed
+returns-clause-closed g c = λ no_. close_shut (g.W.World.seen c.args.world.now) (g.W.World.seen c.close.new.self) c.args.conn.now.client.link c.close.ensures.seen

@@ -3,7 +3,7 @@ use Rattle.conn_service.proofs.Worlds.{only_none}
 use Rattle.conn_service.proofs.links.release.Goals as goal
 
 pub returns-in-Some-clause-seen : goal.returns-in-Some-clause-seen
-returns-in-Some-clause-seen g c = inl refl
+returns-in-Some-clause-seen g c = inl (c.in-Some.ensures.0, refl)
 
 pub returns-in-Some-clause-lately : goal.returns-in-Some-clause-lately
 returns-in-Some-clause-lately g c = only_none _ _

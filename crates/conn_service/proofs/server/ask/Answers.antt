@@ -4,6 +4,7 @@ use Rattle.conn_machine.specs.Reached.{pending_to}
 use Rattle.conn_machine.specs.declared.parts.Current.{Current}
 use Rattle.conn_service.proofs.Wents.{went_same, went_none, went_then, went_server, went_server_fault, went_quiet, of_server, keeps_open, keeps_same, keeps_server, server_then, keeps_all, linked_still, server_given, serving_still}
 use Rattle.conn_service.proofs.Counts.{counted_same, counted_write, stays_work, stays_then, stays_write, work_same, empty_of, some_of}
+use Rattle.conn_service.proofs.Leaves.{closes_same, closes_event, closes_fault}
 use Rattle.conn_service.proofs.server.ask.Goals as goal
 
 pub returns-in_default-clause-went : goal.returns-in_default-clause-went
@@ -117,3 +118,24 @@ returns-in-NotYet-clause-server g c = keeps_server c.reserve.ensures.phase c.res
 
 pub returns-in-NotYet-clause-counted : goal.returns-in-NotYet-clause-counted
 returns-in-NotYet-clause-counted g c = λ r h. counted_write c.in-NotYet.ensures.lately refl (λ ex. (ex, refl)) (counted_same c.reserve.ensures.client (keeps_server c.reserve.ensures.phase c.reserve.ensures.stage c.reserve.ensures.current) h)
+
+pub returns-in_default-clause-links : goal.returns-in_default-clause-links
+returns-in_default-clause-links g c = closes_same refl
+
+pub returns-in_err-reserve-clause-links : goal.returns-in_err-reserve-clause-links
+returns-in_err-reserve-clause-links g c = closes_same refl
+
+pub returns-then-is_empty-clause-links : goal.returns-then-is_empty-clause-links
+returns-then-is_empty-clause-links g c = closes_same refl
+
+pub returns-in-Took-clause-links : goal.returns-in-Took-clause-links
+returns-in-Took-clause-links g c = closes_event c.in-Took.ensures.seen.2
+
+pub returns-in-NotYet-clause-links : goal.returns-in-NotYet-clause-links
+returns-in-NotYet-clause-links g c = closes_same c.in-NotYet.ensures.seen
+
+pub returns-in_err-back_failed-in-Failed-clause-links : goal.returns-in_err-back_failed-in-Failed-clause-links
+returns-in_err-back_failed-in-Failed-clause-links g c = closes_fault c.in-Failed.ensures.seen
+
+pub returns-in_ok-back_failed-in-Failed-clause-links : goal.returns-in_ok-back_failed-in-Failed-clause-links
+returns-in_ok-back_failed-in-Failed-clause-links g c = closes_fault c.in-Failed.ensures.seen

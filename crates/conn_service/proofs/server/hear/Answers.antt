@@ -2,6 +2,7 @@ use Rattle.std.proofs.Common.{refl, inl, inr, subst, ◌≡◌, ℕ, true, arith
 use Rattle.link_world.specs.Log.{gave, gave_end}
 use Rattle.conn_service.proofs.Wents.{went_same, went_none, went_then, went_server, went_server_fault, went_quiet, of_server, keeps_open, keeps_same, keeps_server, server_then, keeps_all, linked_still, server_given, serving_still}
 use Rattle.conn_service.proofs.Counts.{counted_same, counted_server, stays_work, stays_then, stays_read, work_same}
+use Rattle.conn_service.proofs.Leaves.{closes_same, closes_event, closes_fault}
 use Rattle.conn_service.proofs.server.hear.Goals as goal
 
 pub returns-in_default-clause-went : goal.returns-in_default-clause-went
@@ -148,3 +149,33 @@ returns-in-NotYet-clause-server g c = keeps_server c.reserve.ensures.phase c.res
 
 pub returns-in-NotYet-clause-counted : goal.returns-in-NotYet-clause-counted
 returns-in-NotYet-clause-counted g c = let s = (serving_still c.args.conn.now c.reserve.new.self c.reserve.ensures.phase c.reserve.ensures.stage c.reserve.ensures.current c.in-Some.ensures) in counted_server (linked_still c.requires.linked (keeps_same c.reserve.ensures.client c.reserve.ensures.current c.reserve.ensures.phase c.reserve.ensures.stage)) s.0 s.1 c.in-NotYet.ensures.lately refl (λ ex. (ex, refl)) (omega arith) (counted_same c.reserve.ensures.client (keeps_server c.reserve.ensures.phase c.reserve.ensures.stage c.reserve.ensures.current) c.requires.counted)
+
+pub returns-in_default-clause-links : goal.returns-in_default-clause-links
+returns-in_default-clause-links g c = closes_same refl
+
+pub returns-in_err-reserve-clause-links : goal.returns-in_err-reserve-clause-links
+returns-in_err-reserve-clause-links g c = closes_same refl
+
+pub returns-then-reads-ge-READS-clause-links : goal.returns-then-reads-ge-READS-clause-links
+returns-then-reads-ge-READS-clause-links g c = closes_same refl
+
+pub returns-in_err-back_bytes-in-Got-clause-links : goal.returns-in_err-back_bytes-in-Got-clause-links
+returns-in_err-back_bytes-in-Got-clause-links g c = closes_event c.in-Got.ensures.seen.2
+
+pub returns-in_err-back_end-in-End-clause-links : goal.returns-in_err-back_end-in-End-clause-links
+returns-in_err-back_end-in-End-clause-links g c = closes_event c.in-End.ensures.seen
+
+pub returns-in_err-back_failed-in-Failed-clause-links : goal.returns-in_err-back_failed-in-Failed-clause-links
+returns-in_err-back_failed-in-Failed-clause-links g c = closes_fault c.in-Failed.ensures.seen
+
+pub returns-in_ok-back_bytes-in-Got-clause-links : goal.returns-in_ok-back_bytes-in-Got-clause-links
+returns-in_ok-back_bytes-in-Got-clause-links g c = closes_event c.in-Got.ensures.seen.2
+
+pub returns-in_ok-back_end-in-End-clause-links : goal.returns-in_ok-back_end-in-End-clause-links
+returns-in_ok-back_end-in-End-clause-links g c = closes_event c.in-End.ensures.seen
+
+pub returns-in_ok-back_failed-in-Failed-clause-links : goal.returns-in_ok-back_failed-in-Failed-clause-links
+returns-in_ok-back_failed-in-Failed-clause-links g c = closes_fault c.in-Failed.ensures.seen
+
+pub returns-in-NotYet-clause-links : goal.returns-in-NotYet-clause-links
+returns-in-NotYet-clause-links g c = closes_same c.in-NotYet.ensures.seen

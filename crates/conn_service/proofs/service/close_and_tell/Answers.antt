@@ -2,6 +2,7 @@ use Rattle.conn_service.proofs.Farewells.{tells_then}
 use Rattle.std.proofs.Common.{◌∙◌}
 use Rattle.std.proofs.lemmas.Result.{on_ok_weaker, on_err_weaker}
 use Rattle.conn_service.proofs.Wents.{went_then, lost_then, tracked_then, no_desk}
+use Rattle.conn_service.proofs.Leaves.{closes_then, shut_still, leaves_told, on_both}
 use Rattle.conn_service.proofs.service.close_and_tell.Goals as goal
 
 pub tell-requires-clause-linked : goal.tell-requires-clause-linked
@@ -24,3 +25,12 @@ returns-clause-tells g c = tells_then (g.W.World.seen c.args.world.now) (g.W.Wor
 
 pub returns-clause-cause : goal.returns-clause-cause
 returns-clause-cause g c = c.tell.ensures.cause
+
+pub returns-clause-links : goal.returns-clause-links
+returns-clause-links g c = closes_then c.hang_up.ensures.links c.tell.ensures.links
+
+pub returns-clause-closed : goal.returns-clause-closed
+returns-clause-closed g c = λ no_. shut_still c.args.conn.now.client.link c.tell.ensures.links (c.hang_up.ensures.closed no_)
+
+pub returns-clause-leaves : goal.returns-clause-leaves
+returns-clause-leaves g c = on_both c.tell.result (λ same w. leaves_told c.args.conn.now c.tell.new.conn c.requires.kept same w.conn.client (closes_then c.hang_up.ensures.links c.tell.ensures.links)) c.tell.ensures.open (c.tell.ensures.went no_desk)

@@ -1,9 +1,10 @@
 use Rattle.conn_service.proofs.Farewells.{tells_none, tells_release}
-use Rattle.std.proofs.Common.{subst, sym, ℕ, Option, inl}
+use Rattle.std.proofs.Common.{refl, subst, sym, ℕ, Option, inl}
 use Rattle.conn_service.proofs.Lists.{not_false}
 use Rattle.conn_machine.specs.Reached.{IsEnding}
 use Rattle.conn_service.specs.Released.{IsServer}
-use Rattle.conn_service.proofs.Wents.{went_none, went_stop, went_weaker, went_let_go, keeps_ending}
+use Rattle.conn_service.proofs.Wents.{went_none, went_stop, went_weaker, went_let_go, keeps_ending, not_open}
+use Rattle.conn_service.proofs.Leaves.{closes_same, closes_released, leaves_idle, leaves_released}
 use Rattle.conn_service.proofs.service.halt.Goals as goal
 
 pub returns-then-not-is_open-clause-went : goal.returns-then-not-is_open-clause-went
@@ -41,3 +42,22 @@ returns-in_default-clause-stopped g c = λ opened. inl c.stop.ensures.over
 
 pub returns-in-Some-clause-stopped : goal.returns-in-Some-clause-stopped
 returns-in-Some-clause-stopped g c = λ opened. inl c.stop.ensures.over
+
+pub returns-then-not-is_open-clause-links : goal.returns-then-not-is_open-clause-links
+returns-then-not-is_open-clause-links g c = closes_same refl
+
+pub returns-in-Some-clause-links : goal.returns-in-Some-clause-links
+returns-in-Some-clause-links g c = closes_released c.stop.new.self _ _ c.in-Some.link c.release.ensures.seen
+
+pub returns-in_default-clause-links : goal.returns-in_default-clause-links
+returns-in_default-clause-links g c = closes_same refl
+
+pub returns-then-not-is_open-clause-leaves : goal.returns-then-not-is_open-clause-leaves
+returns-then-not-is_open-clause-leaves g c = leaves_idle c.args.conn.now c.give_up.new.self (λ ex. not_false (c.is_open.ensures.1 ex.phase) c.if-not-is_open.true) c.give_up.ensures.client (closes_same refl)
+
+pub returns-in-Some-clause-leaves : goal.returns-in-Some-clause-leaves
+returns-in-Some-clause-leaves g c = leaves_released c.args.conn.now c.stop.new.self c.in-Some.link (subst (λ (o : Option ℕ). IsServer c.args.conn.now o) c.in-Some.is c.server_of-server.ensures)
+    c.stop.ensures.client (λ ex. absurd (not_open _ (subst IsEnding (sym c.stop.ensures.over) tt) ex.phase)) (closes_same refl) c.release.ensures.seen
+
+pub returns-in_default-clause-leaves : goal.returns-in_default-clause-leaves
+returns-in_default-clause-leaves g c = leaves_idle c.args.conn.now c.stop.new.self (subst (λ (o : Option ℕ). IsServer c.args.conn.now o) c.in_default.is c.server_of-server.ensures) c.stop.ensures.client (closes_same refl)

@@ -1,7 +1,8 @@
 use Rattle.std.proofs.Common.{arith}
 use Rattle.std.proofs.lemmas.Result.{on_ok_weaker, on_err_weaker}
-use Rattle.conn_service.proofs.Wents.{went_then, lost_then, tracked_then}
+use Rattle.conn_service.proofs.Wents.{went_then, lost_then, tracked_then, not_open}
 use Rattle.conn_service.proofs.Calms.{calm_told, ready_told}
+use Rattle.conn_service.proofs.Leaves.{on_both, leaves_then, closed_ended, ended_before}
 use Rattle.conn_service.proofs.service.serve_busy.Goals as goal
 
 pub attempt-requires-clause-linked : goal.attempt-requires-clause-linked
@@ -38,3 +39,10 @@ returns-clause-ready g c = ready_told c.close_and_tell.result (g.W.World.seen c.
 
 pub returns-clause-calm : goal.returns-clause-calm
 returns-clause-calm g c = calm_told c.close_and_tell.result c.attempt.new.conn c.close_and_tell.new.conn c.attempt.ensures.kept c.attempt.ensures.calm c.close_and_tell.ensures.lately c.close_and_tell.ensures.open c.close_and_tell.ensures.finished
+
+pub returns-clause-leaves : goal.returns-clause-leaves
+returns-clause-leaves g c = on_both c.close_and_tell.result (λ w leaves. leaves_then c.requires.ready.linked c.attempt.ensures.went w c.attempt.ensures.leaves leaves) (c.close_and_tell.ensures.went (g.S.Shared.desk c.attempt.new.shared)) c.close_and_tell.ensures.leaves
+
+pub returns-clause-closed : goal.returns-clause-closed
+returns-clause-closed g c = on_ok_weaker c.close_and_tell.result (λ same finished. let end = ended_before c.attempt.new.conn c.close_and_tell.new.conn c.attempt.ensures.kept same finished in
+    closed_ended c.args.conn.now c.attempt.new.conn c.attempt.ensures.leaves end c.close_and_tell.ensures.links (c.close_and_tell.ensures.closed (not_open _ end))) c.close_and_tell.ensures.open

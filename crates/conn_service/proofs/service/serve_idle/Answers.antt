@@ -1,7 +1,8 @@
 use Rattle.std.proofs.Common.{refl, inr, ◌∙◌}
 use Rattle.std.proofs.lemmas.Result.{on_ok_weaker, on_err_weaker}
-use Rattle.conn_service.proofs.Wents.{went_then, went_quiet, lost_then, tracked_then, of_client, keeps_same}
+use Rattle.conn_service.proofs.Wents.{went_then, went_quiet, lost_then, tracked_then, of_client, keeps_same, not_open}
 use Rattle.conn_service.proofs.Calms.{calm_told, ready_told}
+use Rattle.conn_service.proofs.Leaves.{on_both, closes_same, leaves_idle, leaves_then, idle_waits, open_unfinished, closed_ended, ended_before}
 use Rattle.conn_service.proofs.service.serve_idle.Goals as goal
 
 pub returns-in-NotYet-clause-went : goal.returns-in-NotYet-clause-went
@@ -41,3 +42,19 @@ returns-in_default-clause-ready g c = ready_told c.close_and_tell.result (g.W.Wo
 
 pub returns-in_default-clause-calm : goal.returns-in_default-clause-calm
 returns-in_default-clause-calm g c = calm_told c.close_and_tell.result c.attempt_after.new.conn c.close_and_tell.new.conn c.attempt_after.ensures.kept c.attempt_after.ensures.calm c.close_and_tell.ensures.lately c.close_and_tell.ensures.open c.close_and_tell.ensures.finished
+
+pub returns-in-NotYet-clause-leaves : goal.returns-in-NotYet-clause-leaves
+returns-in-NotYet-clause-leaves g c = leaves_idle c.args.conn.now c.rest.new.self (idle_waits c.requires.waits (λ is. cc)) c.rest.ensures.client (closes_same c.in-NotYet.ensures.seen)
+
+pub returns-in-NotYet-clause-closed : goal.returns-in-NotYet-clause-closed
+returns-in-NotYet-clause-closed g c = λ finished. absurd (open_unfinished c.rest.new.self (c.rest.ensures.phase ∙ c.requires.waits.phase) finished)
+
+pub attempt_after-requires-clause-waits : goal.attempt_after-requires-clause-waits
+attempt_after-requires-clause-waits g c = c.requires.waits
+
+pub returns-in_default-clause-leaves : goal.returns-in_default-clause-leaves
+returns-in_default-clause-leaves g c = on_both c.close_and_tell.result (λ w leaves. leaves_then c.requires.ready.linked (c.attempt_after.ensures.went _ _ c.requires.ready.linked c.read_client-read.ensures.seen c.read_client-read.ensures.lately) w (c.attempt_after.ensures.leaves _ _ c.requires.ready.linked c.read_client-read.ensures.seen c.read_client-read.ensures.lately) leaves) (c.close_and_tell.ensures.went (g.S.Shared.desk c.attempt_after.new.shared)) c.close_and_tell.ensures.leaves
+
+pub returns-in_default-clause-closed : goal.returns-in_default-clause-closed
+returns-in_default-clause-closed g c = on_ok_weaker c.close_and_tell.result (λ same finished. let end = ended_before c.attempt_after.new.conn c.close_and_tell.new.conn c.attempt_after.ensures.kept same finished in
+    closed_ended c.args.conn.now c.attempt_after.new.conn (c.attempt_after.ensures.leaves _ _ c.requires.ready.linked c.read_client-read.ensures.seen c.read_client-read.ensures.lately) end c.close_and_tell.ensures.links (c.close_and_tell.ensures.closed (not_open _ end))) c.close_and_tell.ensures.open

@@ -1,7 +1,8 @@
 use Rattle.conn_service.proofs.Farewells.{tells_then, told_by}
 use Rattle.std.proofs.Common.{inr}
 use Rattle.std.proofs.lemmas.Result.{on_ok_weaker, on_err_weaker}
-use Rattle.conn_service.proofs.Wents.{went_then, went_weaker, lost_then, lost_weaker, tracked_then, no_desk}
+use Rattle.conn_service.proofs.Wents.{went_then, went_weaker, lost_then, lost_weaker, tracked_then, no_desk, not_open}
+use Rattle.conn_service.proofs.Leaves.{closed_ended}
 use Rattle.conn_service.proofs.service.stop.Goals as goal
 
 pub close_and_tell-requires-clause-linked : goal.close_and_tell-requires-clause-linked
@@ -27,3 +28,6 @@ returns-clause-tells g c = tells_then (g.W.World.seen c.args.world.now) (g.W.Wor
 
 pub returns-clause-stopped : goal.returns-clause-stopped
 returns-clause-stopped g c = λ opened. on_ok_weaker c.close_and_tell.result (λ done. told_by _ _ (c.close_and_tell.ensures.cause _ (c.halt.ensures.stopped opened)) (done c.halt.ensures.over).1) c.close_and_tell.ensures.finished
+
+pub returns-clause-closed : goal.returns-clause-closed
+returns-clause-closed g c = closed_ended c.args.conn.now c.halt.new.conn c.halt.ensures.leaves c.halt.ensures.over c.close_and_tell.ensures.links (c.close_and_tell.ensures.closed (not_open _ c.halt.ensures.over))

@@ -4,6 +4,7 @@ use Rattle.conn_machine.specs.declared.conn.Conn.{Conn}
 use Rattle.conn_service.specs.Moments.{moment}
 use Rattle.conn_service.specs.Went.{Went}
 use Rattle.conn_service.proofs.Wents.{went_then, went_same, went_note, lost_note, at_err, not_open, keeps_note, still_kept, notes_then, stands_then, told_of}
+use Rattle.conn_service.proofs.Leaves.{closes_same, closes_then, closes_event, closes_refused}
 use Rattle.conn_service.proofs.service.tell.Goals as goal
 
 pub returns-then-is_quiet-clause-went : goal.returns-then-is_quiet-clause-went
@@ -16,7 +17,7 @@ pub returns-then-is_quiet-clause-finished : goal.returns-then-is_quiet-clause-fi
 returns-then-is_quiet-clause-finished g c = λ end. absurd (not_open c.args.conn.now.phase end (c.is_quiet.ensures.open c.if-is_quiet.true))
 
 pub notes-init : goal.notes-init
-notes-init g c = record { went = λ desk. went_same c.requires.linked; lately = refl; open_ = λ opened. refl; ending = λ end. end; cause = λ x e. e; tells = tells_none (g.W.World.seen c.args.world.now) }
+notes-init g c = record { went = λ desk. went_same c.requires.linked; lately = refl; open_ = λ opened. refl; ending = λ end. end; cause = λ x e. e; tells = tells_none (g.W.World.seen c.args.world.now); links = closes_same refl }
 
 pub returns-in_err-note-clause-lost : goal.returns-in_err-note-clause-lost
 returns-in_err-note-clause-lost g c = λ desk. at_err c.from_residual.result (lost_note (c.notes.invariant.went desk) c.in_err-note.ensures.seen c.in_err-note.ensures.lately c.in-Some.ensures.unended)
@@ -37,6 +38,7 @@ notes-preserved g c = record {
   ending = λ end. c.take_note.ensures.ending (c.notes.invariant.ending end);
   cause = λ x e. c.take_note.ensures.cause x (c.notes.invariant.cause x e);
   tells = tells_then (g.W.World.seen c.args.world.now) (g.W.World.seen c.notes.world) (g.W.World.seen c.note.new.self) c.notes.invariant.tells (tells_note (g.W.World.seen c.notes.world) c.in-Some.note tt (g.W.World.seen c.note.new.self) c.in_ok-note.ensures.seen);
+  links = closes_then c.notes.invariant.links (closes_event c.in_ok-note.ensures.seen);
 }
 
 pub returns-clause-went : goal.returns-clause-went
@@ -72,3 +74,12 @@ returns-in_err-note-clause-cause g c = λ x e. c.take_note.ensures.cause x (c.no
 
 pub returns-clause-cause : goal.returns-clause-cause
 returns-clause-cause g c = λ x e. c.take_note.ensures.cause x (c.notes.invariant.cause x e)
+
+pub returns-then-is_quiet-clause-links : goal.returns-then-is_quiet-clause-links
+returns-then-is_quiet-clause-links g c = closes_same refl
+
+pub returns-in_err-note-clause-links : goal.returns-in_err-note-clause-links
+returns-in_err-note-clause-links g c = closes_then c.notes.invariant.links (closes_refused c.in_err-note.ensures.seen.2)
+
+pub returns-clause-links : goal.returns-clause-links
+returns-clause-links g c = c.notes.invariant.links

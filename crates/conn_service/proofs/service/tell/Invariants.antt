@@ -1,5 +1,6 @@
 use Rattle.link_world.specs.declared.note.EndCause.{EndCause}
 use Rattle.conn_service.specs.Farewell.{OnlyTells}
+use Rattle.conn_service.specs.Released.{OnlyCloses}
 use Rattle.std.proofs.Common.{◌≡◌}
 use Rattle.desk.specs.Desks.{Desk}
 use Rattle.conn_machine.specs.Reached.{notes_left, IsOpen, IsEnding, EndsBy}
@@ -15,6 +16,7 @@ invariant-notes g l = record {
   ending : IsEnding l.fn.conn.phase → IsEnding l.conn.phase;
   cause : (x : EndCause) → EndsBy x l.fn.conn.phase → EndsBy x l.conn.phase;
   tells : OnlyTells (g.W.World.seen l.fn.world) (g.W.World.seen l.world);
+  links : OnlyCloses (g.W.World.seen l.fn.world) (g.W.World.seen l.world);
 }
 
 abbrev pub decreases-notes : goal.decreases-notes

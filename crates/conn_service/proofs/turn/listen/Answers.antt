@@ -5,6 +5,7 @@ use Rattle.conn_service.specs.Moments.{IsExchanging}
 use Rattle.conn_service.proofs.Wents.{went_then, no_desk}
 use Rattle.conn_service.proofs.Counts.{stays_work, work_same}
 use Rattle.conn_service.proofs.Calms.{rests_from}
+use Rattle.conn_service.proofs.Leaves.{closes_then}
 use Rattle.conn_service.proofs.turn.listen.Goals as goal
 
 pub returns-in_err-received-clause-went : goal.returns-in_err-received-clause-went
@@ -36,3 +37,12 @@ returns-clause-calm g c = λ e opened.
     let away : IsExchanging c.receive.new.conn → ⊥ = λ ex. let f : stage.Head ≡ stage.Exchange = sym (s.0.same.stage ∙ c.requires.stage) ∙ ex.stage in cc in
     rests_from (subst IsStanding (sym c.requires.stage) tt) s.0 s.1 (stays_work _ (work_same _)) (λ ex. absurd (away ex)) (stays_work _ (work_same _)) (λ ex. absurd (away ex)) v.0 v.1
     (c.in_ok-answered.ensures.prompt c.in_ok-received.ensures.prompt) opened
+
+pub returns-in_err-received-clause-links : goal.returns-in_err-received-clause-links
+returns-in_err-received-clause-links g c = c.receive.ensures.links
+
+pub returns-in_err-answered-clause-links : goal.returns-in_err-answered-clause-links
+returns-in_err-answered-clause-links g c = closes_then c.receive.ensures.links c.answer.ensures.links
+
+pub returns-clause-links : goal.returns-clause-links
+returns-clause-links g c = closes_then c.receive.ensures.links c.answer.ensures.links

@@ -1,6 +1,7 @@
 use Rattle.std.proofs.Common.{sym, ◌∙◌}
 use Rattle.conn_service.proofs.Wents.{went_then, no_desk}
 use Rattle.conn_service.proofs.Calms.{rests_from}
+use Rattle.conn_service.proofs.Leaves.{closes_then}
 use Rattle.conn_service.proofs.turn.pass_once.Goals as goal
 
 pub returns-in_err-received-clause-went : goal.returns-in_err-received-clause-went
@@ -51,3 +52,18 @@ returns-clause-calm g c = λ e opened.
     let s = c.in_ok-received.ensures.still none.0 (sym t.0.same.phase ∙ sym u.0.same.phase ∙ sym v.0.same.phase ∙ opened) in
     rests_from c.requires.stage s.0 s.1 t.0 t.1 u.0 u.1 v.0 v.1
     (c.in_ok-answered.ensures.prompt c.in_ok-heard.ensures.prompt) opened
+
+pub returns-in_err-received-clause-links : goal.returns-in_err-received-clause-links
+returns-in_err-received-clause-links g c = c.receive.ensures.links
+
+pub returns-in_err-asked-clause-links : goal.returns-in_err-asked-clause-links
+returns-in_err-asked-clause-links g c = closes_then c.receive.ensures.links c.ask.ensures.links
+
+pub returns-in_err-heard-clause-links : goal.returns-in_err-heard-clause-links
+returns-in_err-heard-clause-links g c = closes_then c.receive.ensures.links (closes_then c.ask.ensures.links c.hear.ensures.links)
+
+pub returns-in_err-answered-clause-links : goal.returns-in_err-answered-clause-links
+returns-in_err-answered-clause-links g c = closes_then c.receive.ensures.links (closes_then c.ask.ensures.links (closes_then c.hear.ensures.links c.answer.ensures.links))
+
+pub returns-clause-links : goal.returns-clause-links
+returns-clause-links g c = closes_then c.receive.ensures.links (closes_then c.ask.ensures.links (closes_then c.hear.ensures.links c.answer.ensures.links))

@@ -1,10 +1,11 @@
 use Rattle.std.proofs.Common.{rules, false, ◌≡◌}
 use Rattle.conn_service.proofs.Lists.{not_false}
 use Rattle.conn_service.proofs.Wents.{went_same, went_then}
+use Rattle.conn_service.proofs.Leaves.{leaves_same, leaves_then}
 use Rattle.conn_service.proofs.turn.work.Goals as goal
 
 pub loop-init : goal.loop-init
-loop-init g c = (tt, tt, went_same c.requires.linked, c.requires.prompt, c.requires.counted)
+loop-init g c = (tt, tt, went_same c.requires.linked, c.requires.prompt, c.requires.counted, leaves_same (g.W.World.seen c.args.world.now) c.args.conn.now)
 
 pub returns-then-not-is_open-clause-went : goal.returns-then-not-is_open-clause-went
 returns-then-not-is_open-clause-went g c = c.loop.invariant.2
@@ -31,4 +32,13 @@ pub returns-then-not-branch-clause-went : goal.returns-then-not-branch-clause-we
 returns-then-not-branch-clause-went g c = went_then c.loop.invariant.2 c.round.ensures.went
 
 pub loop-preserved : goal.loop-preserved
-loop-preserved g c = (tt, tt, went_then c.loop.invariant.2 c.round.ensures.went, c.in_ok-round.ensures.prompt, c.in_ok-round.ensures.counted)
+loop-preserved g c = (tt, tt, went_then c.loop.invariant.2 c.round.ensures.went, c.in_ok-round.ensures.prompt, c.in_ok-round.ensures.counted, leaves_then c.requires.linked c.loop.invariant.2 c.round.ensures.went c.loop.invariant.5 c.round.ensures.leaves)
+
+pub returns-then-not-is_open-clause-leaves : goal.returns-then-not-is_open-clause-leaves
+returns-then-not-is_open-clause-leaves g c = c.loop.invariant.5
+
+pub returns-in_err-round-clause-leaves : goal.returns-in_err-round-clause-leaves
+returns-in_err-round-clause-leaves g c = leaves_then c.requires.linked c.loop.invariant.2 c.round.ensures.went c.loop.invariant.5 c.round.ensures.leaves
+
+pub returns-then-not-branch-clause-leaves : goal.returns-then-not-branch-clause-leaves
+returns-then-not-branch-clause-leaves g c = leaves_then c.requires.linked c.loop.invariant.2 c.round.ensures.went c.loop.invariant.5 c.round.ensures.leaves
