@@ -1,5 +1,5 @@
 -- What an element of Consul's reply says.
-use Rattle.std.specs.Prelude.{◌≡◌, ◌≢◌, ℕ, ◌==◌, nat_le, if◌then◌else◌, List, [], ◌∷◌, take, count_by, Option, Some, None, option_and_then, Result, Ok, Err, IsUtf8, codes, slice_get}
+use Rattle.std.specs.Prelude.{◌≡◌, ◌≢◌, ℕ, List, [], ◌∷◌, take, Option, Some, None, option_and_then, Result, Ok, Err, IsUtf8, codes, slice_get}
 use Rattle.serde_json.specs.Data.{Data, null, string}
 use Rattle.serde_json.specs.Find.{get, as_str}
 use Rattle.base64.specs.Engines.{standard}
@@ -8,16 +8,9 @@ use Rattle.consul_kv.specs.Keys.{Pair}
 use Rattle.consul_kv.specs.declared.element.ElementFault.{ElementFault}
 use Rattle.consul_kv.specs.declared.element.ElementFault.TheVariants.{Shape, NotBase64, NotText, Memory}
 
--- the most slashes of a key, so that building and dropping a tree never goes deeper. No key of the schema has so many.
-abbrev pub most_slashes : ℕ
-most_slashes = 255
-
-abbrev pub short_key : List ℕ → Option (List ℕ)
-short_key key = if nat_le (count_by (λ b. b == 47) key) most_slashes then Some key else None
-
 -- the text under `Key`
 abbrev pub key_in : Data → Option (List ℕ)
-key_in element = option_and_then short_key (option_and_then as_str (get (codes "Key") element))
+key_in element = option_and_then as_str (get (codes "Key") element)
 
 -- what reading a text of base64 answers: the bytes that it encodes, where they are text
 abbrev pub IsDecodedAs : List ℕ → Result (List ℕ) ElementFault → Type 0

@@ -2,6 +2,7 @@ pub mod Elements
 pub mod Keys
 pub mod Leaves
 pub mod Pairs
+pub mod Depths
 pub mod Sorted
 pub mod Rises
 pub mod Grown

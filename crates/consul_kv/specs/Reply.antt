@@ -1,5 +1,5 @@
 -- What the bytes of Consul's reply are as a configuration, step by step.
-use Rattle.std.specs.Prelude.{◌≡◌, ◌≢◌, ℕ, ◌⊎◌, true, List, length, drop, map, Some, None, Result, Ok, Err, IsUtf8}
+use Rattle.std.specs.Prelude.{◌≡◌, ◌≢◌, ℕ, ◌⊎◌, true, List, length, drop, map, Option, Some, None, Result, Ok, Err, IsUtf8}
 use Rattle.std.specs.List.Sorted.{IsPermutation}
 use Rattle.serde_json.specs.Data.{Data, array}
 use Rattle.serde_json.specs.Read.{read}
@@ -13,6 +13,7 @@ use Rattle.dyn_config.specs.declared.fault.ConfigFault.TheVariants as config
 use Rattle.dyn_config.specs.Decoding.{IsDecoded}
 use Rattle.consul_kv.specs.Keys.{Pair, counted, IsFirstClash, HasNoClash}
 use Rattle.consul_kv.specs.Elements.{ArePairsOf, IsFirstFaulty}
+use Rattle.consul_kv.specs.Depths.{deep_place}
 use Rattle.consul_kv.specs.Leaves.{field_leaves, fields_grown}
 use Rattle.consul_kv.specs.declared.element.ElementFault.TheVariants as element
 use Rattle.consul_kv.specs.declared.config.KvFault.{KvFault}
@@ -42,19 +43,32 @@ IsTreeRead t (Err (kv.Config fault)) = (fault ≢ config.Memory) × IsDecoded Te
 IsTreeRead t (Err kv.Memory) = Unit {0}
 IsTreeRead t _ = ⊥
 
--- what reading the pairs that count answers: the first clash, or the answer on their tree
-abbrev pub AreKeysRead : List Pair → List ℕ → Result Config KvFault → Type 0
-AreKeysRead pairs root (Err (kv.Clash key)) = (ordered : List Pair) × IsPermutation pairs ordered × IsFirstClash root ordered key
-AreKeysRead pairs root (Err kv.Memory) = Unit {0}
-AreKeysRead pairs root result = (t : Tree) × IsTreeOf root pairs t × IsTreeRead t result
+-- no two of the pairs clash, in whatever order they stand
+abbrev pub AreApart : List ℕ → List Pair → Type 0
+AreApart root pairs = (ordered : List Pair) × IsPermutation pairs ordered × HasNoClash root ordered
 
--- what reading a list of elements answers: the first element with a fault, or the answer on those pairs that count
+-- what reading pairs that don't clash answers: the shape of the first element with too many slashes, or the answer on their tree
+abbrev pub IsApartRead : List Pair → List ℕ → Option ℕ → Result Config KvFault → Type 0
+IsApartRead pairs root (Some at) result = AreApart root pairs × (result ≡ Err (kv.Shape at))
+IsApartRead pairs root None result = (t : Tree) × IsTreeOf root pairs t × IsTreeRead t result
+
+-- what reading the pairs that count answers: the first clash, or the answer where there is none
+abbrev pub AreKeysRead : List Pair → List ℕ → Option ℕ → Result Config KvFault → Type 0
+AreKeysRead pairs root deep (Err (kv.Clash key)) = (ordered : List Pair) × IsPermutation pairs ordered × IsFirstClash root ordered key
+AreKeysRead pairs root deep (Err kv.Memory) = Unit {0}
+AreKeysRead pairs root deep result = IsApartRead pairs root deep result
+
+-- each element is sound, and this is the answer on those of the pairs that count
+abbrev pub ArePairsRead : List Data → List ℕ → Result Config KvFault → Type 0
+ArePairsRead elements root result = (all : List Pair) × ArePairsOf elements all × AreKeysRead (counted root all) root (deep_place root elements) result
+
+-- what reading a list of elements answers: the first element with a fault, or the answer on the pairs
 abbrev pub IsListRead : List Data → List ℕ → Result Config KvFault → Type 0
-IsListRead elements root (Err (kv.Shape at)) = IsFirstFaulty elements at element.Shape
+IsListRead elements root (Err (kv.Shape at)) = IsFirstFaulty elements at element.Shape ⊎ ArePairsRead elements root (Err (kv.Shape at))
 IsListRead elements root (Err (kv.NotBase64 at)) = IsFirstFaulty elements at element.NotBase64
 IsListRead elements root (Err (kv.NotText at)) = IsFirstFaulty elements at element.NotText
 IsListRead elements root (Err kv.Memory) = Unit {0}
-IsListRead elements root result = (all : List Pair) × ArePairsOf elements all × AreKeysRead (counted root all) root result
+IsListRead elements root result = ArePairsRead elements root result
 
 -- what reading a JSON value answers: it is a list, or its shape is the fault
 abbrev pub IsReplyRead : Data → List ℕ → Result Config KvFault → Type 0

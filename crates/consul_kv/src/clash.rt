@@ -33,7 +33,8 @@ fn is_found(root: &[u8], pairs: &[Pair<'_>], at: usize) -> bool
     has_empty_part(path_of(root, key)) || (at + 1 < pairs.len() && leads(key, pairs[at + 1].key))
 }
 
-fn path_of<'a>(root: &[u8], key: &'a [u8]) -> &'a [u8]
+/// What a key names below the root.
+pub(crate) fn path_of<'a>(root: &[u8], key: &'a [u8]) -> &'a [u8]
     ensures { result.now ≡ path_in root.now key.now }
 {
     behind(key, root.len() + 1)

@@ -1,5 +1,5 @@
 // Configurations out of replies.
-ghost use Rattle.std.specs.Prelude.{◌≡◌, map, IfOk};
+ghost use Rattle.std.specs.Prelude.{◌≡◌, None, map, IfOk};
 ghost use Rattle.serde_json.specs.View.{view as data_of};
 ghost use Rattle.consul_kv.specs.Keys.{HasNoClash, AreBelow};
 ghost use Rattle.consul_kv.specs.Sorted.{AreKeysSorted};
@@ -10,6 +10,7 @@ ghost use Rattle.consul_kv.specs.Reply.{IsReadKv, IsReplyRead, IsListRead, AreKe
 ghost use Rattle.consul_kv.specs.declared.config.KvFault.TheVariants.{Memory as WantsMemory};
 
 use crate::clash::{behind, first_clash};
+use crate::depth::deep_place;
 use crate::element::{ElementFault, Pair, read_pairs};
 use crate::grow::{Leaf, table_of};
 use crate::keys::key_order;
@@ -24,9 +25,9 @@ use std::alloc::Global;
 pub enum KvFault {
     /// It is no JSON text. Nesting over 127 is none.
     NotJson,
-    /// The element at this place, from 0 on, is no object with a text `Key` and a `Value` that is a text or null, or its key
-    /// has more than 255 slashes, so that building and dropping the tree never goes deeper. No key of the schema has so
-    /// many. 0 also where the whole is no array.
+    /// The element at this place, from 0 on, is no object with a text `Key` and a `Value` that is a text or null; 0 also where
+    /// the whole is no array. Or, where no key clashes, it is the first whose key counts and has more than 255 slashes below the
+    /// root, so that building and dropping the tree never goes deeper. No key of the schema has so many.
     Shape { at: usize },
     /// The value at this place is no padded base64 of the standard alphabet.
     NotBase64 { at: usize },
@@ -77,7 +78,7 @@ fn read_elements(alloc: Global, elements: &[Value], root: &[u8]) -> Result<Confi
     ensures { IsListRead (map data_of elements.now) root.now result }
 {
     match read_pairs(alloc, elements, root) {
-        Ok(pairs) => read_keys(alloc, pairs, root),
+        Ok(pairs) => read_keys(alloc, pairs, root, deep_place(elements, root)),
         Err((at, ElementFault::Shape)) => Err(KvFault::Shape { at }),
         Err((at, ElementFault::NotBase64)) => Err(KvFault::NotBase64 { at }),
         Err((at, ElementFault::NotText)) => Err(KvFault::NotText { at }),
@@ -85,34 +86,62 @@ fn read_elements(alloc: Global, elements: &[Value], root: &[u8]) -> Result<Confi
     }
 }
 
-fn read_keys(alloc: Global, pairs: Vec<Pair<'_>>, root: &[u8]) -> Result<Config, KvFault>
+fn read_keys(
+    alloc: Global,
+    pairs: Vec<Pair<'_>>,
+    root: &[u8],
+    deep: Option<usize>,
+) -> Result<Config, KvFault>
     requires { AreBelow root.now (map pair_view pairs.items) }
-    ensures { AreKeysRead (map pair_view pairs.entry.items) root.now result }
+    ensures { AreKeysRead (map pair_view pairs.entry.items) root.now deep result }
 {
     let mut pairs = pairs;
     pairs.sort_by(|a, b| key_order(a.key, b.key))?;
-    read_sorted(alloc, pairs.as_slice(), root)
+    read_sorted(alloc, pairs.as_slice(), root, deep)
 }
 
-fn read_sorted(alloc: Global, pairs: &[Pair<'_>], root: &[u8]) -> Result<Config, KvFault>
+fn read_sorted(
+    alloc: Global,
+    pairs: &[Pair<'_>],
+    root: &[u8],
+    deep: Option<usize>,
+) -> Result<Config, KvFault>
     requires below { AreBelow root.now (map pair_view pairs.now) }
     requires sorted { AreKeysSorted (map pair_view pairs.now) }
-    ensures { AreKeysRead (map pair_view pairs.now) root.now result }
+    ensures { AreKeysRead (map pair_view pairs.now) root.now deep result }
 {
     match first_clash(root, pairs) {
         Some(clash) => {
             let key = Bytes::from_slice(alloc, clash)?;
             Err(KvFault::Clash { key })
         }
-        None => read_apart(alloc, pairs, root),
+        None => read_apart(alloc, pairs, root, deep),
     }
 }
 
-fn read_apart(alloc: Global, pairs: &[Pair<'_>], root: &[u8]) -> Result<Config, KvFault>
+// Reads pairs of which none clash, where this is the first element with too many slashes.
+fn read_apart(
+    alloc: Global,
+    pairs: &[Pair<'_>],
+    root: &[u8],
+    deep: Option<usize>,
+) -> Result<Config, KvFault>
     requires below { AreBelow root.now (map pair_view pairs.now) }
     requires sorted { AreKeysSorted (map pair_view pairs.now) }
     requires apart { HasNoClash root.now (map pair_view pairs.now) }
-    ensures { AreKeysRead (map pair_view pairs.now) root.now result }
+    ensures { AreKeysRead (map pair_view pairs.now) root.now deep result }
+{
+    match deep {
+        Some(at) => Err(KvFault::Shape { at }),
+        None => read_shallow(alloc, pairs, root),
+    }
+}
+
+fn read_shallow(alloc: Global, pairs: &[Pair<'_>], root: &[u8]) -> Result<Config, KvFault>
+    requires below { AreBelow root.now (map pair_view pairs.now) }
+    requires sorted { AreKeysSorted (map pair_view pairs.now) }
+    requires apart { HasNoClash root.now (map pair_view pairs.now) }
+    ensures { AreKeysRead (map pair_view pairs.now) root.now None result }
 {
     let tree = tree_of(alloc, pairs, root)?;
     decode_texts(alloc, &tree)

@@ -37,9 +37,6 @@ impl From<Memory> for ElementFault {
     }
 }
 
-/// The most slashes of a key.
-const MOST_SLASHES: usize = 255;
-
 /// The pairs below the root, or the first element with a fault.
 pub(crate) fn read_pairs<'a>(
     alloc: Global,
@@ -107,15 +104,11 @@ pub(crate) fn read_element<'a>(alloc: Global, element: &'a Value) -> Result<Pair
     Ok(Pair { key, value })
 }
 
-fn key_of<'a>(element: &'a Value) -> Option<&'a [u8]>
+/// The text under `Key`.
+pub(crate) fn key_of<'a>(element: &'a Value) -> Option<&'a [u8]>
     ensures { option_map (λ key. key.now) result ≡ key_in (data_of element.now) }
 {
-    let key = element.get("Key")?.as_str()?.as_bytes();
-    if key.iter().filter(|b| **b == b'/').count() <= MOST_SLASHES {
-        Some(key)
-    } else {
-        None
-    }
+    Some(element.get("Key")?.as_str()?.as_bytes())
 }
 
 fn read_value(alloc: Global, value: Option<&Value>) -> Result<Bytes, ElementFault>

@@ -4,6 +4,7 @@
 
 mod clash;
 mod config;
+mod depth;
 mod element;
 mod grow;
 mod keys;

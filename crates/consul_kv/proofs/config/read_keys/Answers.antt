@@ -33,5 +33,5 @@ returns c =
     let from = c.args.pairs.items in
     let to = c.sort_by.new.self.items in
     let moved : IsPermutation (map pair_view from) (map pair_view to) = IsPermutation-map pair_view from to c.in_ok-sort_by.ensures.permutation in
-    keys_moved (map pair_view from) (map pair_view to) c.args.root.now c.read_sorted.result moved
-    (subst (λ ps. AreKeysRead (map pair_view ps) c.args.root.now c.read_sorted.result) c.as_slice.ensures.value c.read_sorted.ensures)
+    keys_moved (map pair_view from) (map pair_view to) c.args.root.now c.args.deep c.read_sorted.result moved
+    (subst (λ ps. AreKeysRead (map pair_view ps) c.args.root.now c.args.deep c.read_sorted.result) c.as_slice.ensures.value c.read_sorted.ensures)
