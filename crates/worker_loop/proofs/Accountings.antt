@@ -10,7 +10,7 @@ use Rattle.slab.specs.Slab.{Slab, get}
 use Rattle.link_world.specs.declared.note.Note.{Note}
 use Rattle.link_world.specs.declared.world.Arrival.{Arrival}
 use Rattle.link_world.specs.declared.world.WaitFailed.{WaitFailed}
-use Rattle.link_world.specs.Log.{Event, LinkEvent, came, waited, clock, stop, on, history_of, notes, note_by}
+use Rattle.link_world.specs.Log.{Event, LinkEvent, came, waited, wait_failed, clock, asked, on, history_of, notes, note_by}
 use Rattle.link_world.specs.Seen.{Seen, Came, NowDid, StopDid, WaitDid}
 use Rattle.link_world.specs.Lately.{Lately}
 use Rattle.conversation.specs.Plans.{Plan}
@@ -31,7 +31,7 @@ use Rattle.conn_service.specs.Moments.{moment, Stands}
 use Rattle.conn_service.specs.Pins.{Mark, kept, refused as turned, mark_plan, kept_by, refused_by, counted_on}
 use Rattle.conn_service.specs.Went.{Went, extended}
 use Rattle.worker_loop.specs.Accounts.{Label, taken, refused, label_plan, number_at, refused_at, pinned_on, number_of, noted_on, number_if, open_number, IsNobodys, Accounts}
-use Rattle.worker_loop.specs.Runs.{AttendsBy, Began}
+use Rattle.worker_loop.specs.Runs.{AttendsBy, JustCame}
 use Rattle.worker_loop.proofs.Lists.{extended_twice, extended_none, history-append, steps-append}
 use Rattle.worker_loop.proofs.Frames.{client_told, no_more_told}
 use Rattle.worker_loop.proofs.Servings.{Others}
@@ -318,7 +318,7 @@ accounts_join conns conns' key d strange unpinned vacant gd others a = record {
   counted = a.counted;
 }
 
-unpinned_first : {a : Arrival} {d : Conn} → Began a d → d.current.pinned ≡ false
+unpinned_first : {a : Arrival} {d : Conn} → JustCame a d → d.current.pinned ≡ false
 unpinned_first {a} {d} began =
     let r = began.reached in
     let ph : PhaseHolds Open (first_steps a) d r.done r.last r.rest r.left r.kept.next = subst (λ (p : Phase). PhaseHolds p (first_steps a) d r.done r.last r.rest r.left r.kept.next) began.waits.phase r.phase in
@@ -326,10 +326,10 @@ unpinned_first {a} {d} began =
     st.unpinned
 
 -- a client came
-pub accounts_accept : {base now new : Seen} {from f : Desk} {g : List Plan} {steps : ℕ → List Step} (a : Arrival) (d : Conn) (conns conns' : Slab Conn) (key : ℕ) → AttendsBy now g steps conns → Came now a.link (came a.entry a.peer) new → Began a d → get conns key ≡ None → get conns' key ≡ Some d → Others conns conns' key → Accounts base now from f conns → Accounts base new from f conns'
+pub accounts_accept : {base now new : Seen} {from f : Desk} {g : List Plan} {steps : ℕ → List Step} (a : Arrival) (d : Conn) (conns conns' : Slab Conn) (key : ℕ) → AttendsBy now g steps conns → Came now a.link (came a.entry a.peer) new → JustCame a d → get conns key ≡ None → get conns' key ≡ Some d → Others conns conns' key → Accounts base now from f conns → Accounts base new from f conns'
 accounts_accept {base} {now} {new} {from} {f} {g} {steps} a d conns conns' key at arrival began vacant gd others acc =
     accounts_join conns conns' key d strange (unpinned_first began) vacant gd others
-    (accounts_quiet (on a.link (came a.entry a.peer) ∷ []) (ap (λ (s : Seen). s.log) arrival.same) (λ l. came_mute l a.link a.entry a.peer) acc)
+    (accounts_quiet (on a.link now.now (came a.entry a.peer) ∷ []) (ap (λ (s : Seen). s.log) arrival.same) (λ l. came_mute l a.link now.now a.entry a.peer) acc)
   where
     strange : IsNobodys d.client.link conns
     strange k x gx same = let t = at.tracks k x gx in let come = t.ready.linked.come in let at_link = began.link in let not = arrival.not_come in let e : now.come x.client.link ≡ now.come a.link = ap now.come (same ∙ at_link) in let f : ⊥ = cc in f
@@ -338,11 +338,14 @@ pub on_ok : {P : Type 0} (r : Result (Unit {0}) AllocError) → IsOk r → OnOk 
 on_ok (Ok x) is h = h
 on_ok (Err e) is h = absurd (let f : ⊥ = cc in f)
 
-pub accounts_wait : {base now new : Seen} {from f : Desk} {conns : Slab Conn} → WaitDid now (Ok tt) new → Accounts base now from f conns → Accounts base new from f conns
-accounts_wait is a = accounts_quiet (waited ∷ []) (ap (λ (s : Seen). s.log) is) (λ l. refl) a
+pub accounts_wait : {base now new : Seen} {from f : Desk} {conns : Slab Conn} (until : ℕ) → WaitDid now until (Ok tt) new → Accounts base now from f conns → Accounts base new from f conns
+accounts_wait until is a = accounts_quiet (waited until ∷ []) (ap (λ (s : Seen). s.log) is) (λ l. refl) a
 
-pub accounts_failed : {base now new : Seen} {from f : Desk} {conns : Slab Conn} (e : WaitFailed) → WaitDid now (Err e) new → Accounts base now from f conns → Accounts base new from f conns
-accounts_failed {base} {now} e (n, more, is) a = accounts_quiet [] (ap (λ (s : Seen). s.log) is ∙ extended_none now.log) (λ l. refl) a
+pub accounts_failed : {base now new : Seen} {from f : Desk} {conns : Slab Conn} (until : ℕ) (e : WaitFailed) → WaitDid now until (Err e) new → Accounts base now from f conns → Accounts base new from f conns
+accounts_failed until e (n, more, is) a = accounts_quiet (wait_failed until ∷ []) (ap (λ (s : Seen). s.log) is) (λ l. refl) a
 
 pub accounts_stop : {base now new : Seen} {from f : Desk} {conns : Slab Conn} → StopDid now true new → Accounts base now from f conns → Accounts base new from f conns
-accounts_stop (n, more, is) a = accounts_quiet (stop ∷ []) (ap (λ (s : Seen). s.log) is) (λ l. refl) a
+accounts_stop (n, more, is) a = accounts_quiet (asked true ∷ []) (ap (λ (s : Seen). s.log) is) (λ l. refl) a
+
+pub accounts_unasked : {base now new : Seen} {from f : Desk} {conns : Slab Conn} → StopDid now false new → Accounts base now from f conns → Accounts base new from f conns
+accounts_unasked is a = accounts_quiet (asked false ∷ []) (ap (λ (s : Seen). s.log) is) (λ l. refl) a

@@ -1,5 +1,5 @@
 -- When each request of the connections that a run ended has its whole reply.
-use Rattle.std.proofs.Common.{◌≡◌, ◌≢◌, ◌⊎◌, ℕ, ◌<◌, List, [], ◌∷◌, ◌++◌, Option, Some, None, refl, sym, ◌∙◌, ap, subst, inl, inr, true}
+use Rattle.std.proofs.Common.{◌≡◌, ◌≢◌, ◌⊎◌, ℕ, List, [], ◌∷◌, ◌++◌, Option, Some, None, refl, sym, ◌∙◌, ap, subst, inl, inr, true}
 use Rattle.std.specs.Prelude.{IfSome}
 use Rattle.std.specs.List.{Contains}
 use Rattle.std.proofs.lemmas.List.Concat.{flat_map-append}
@@ -9,7 +9,7 @@ use Rattle.link_world.specs.declared.note.Note.{Note}
 use Rattle.link_world.specs.declared.note.EndCause.{EndCause}
 use Rattle.link_world.specs.declared.note.EndCause.TheVariants.{Client, ClientFailed, Asked, Refused, Unread, Idle, Count, Cut, CutLate, Stopped, Memory}
 use Rattle.link_world.specs.Lately.{Lately}
-use Rattle.link_world.specs.Log.{Event, history_of, notes, note_by}
+use Rattle.link_world.specs.Log.{Event, history_of, failures_of, notes, note_by}
 use Rattle.link_world.specs.Seen.{Seen}
 use Rattle.conversation.specs.Plans.{Plan}
 use Rattle.conversation.specs.Steps.{Step, history}
@@ -21,22 +21,13 @@ use Rattle.conn_service.specs.Calm.{Calm}
 use Rattle.conn_service.specs.Went.{extended}
 use Rattle.conn_service.proofs.Completions.{calm_complete}
 use Rattle.worker_loop.specs.Owned.{Shows, Tracks}
-use Rattle.worker_loop.specs.Runs.{Runs, IsServed, EndsOver}
+use Rattle.worker_loop.specs.Runs.{Runs, IsServed, EndsServedApart}
 use Rattle.worker_loop.specs.Met.{IsSomebodys}
 use Rattle.worker_loop.specs.Settled.{StoppedAfter}
 use Rattle.worker_loop.specs.Complete.{IsWellServed, EndSays, AllComplete}
-use Rattle.worker_loop.proofs.Lists.{contains_none, extended_twice, told_then, history-append}
+use Rattle.worker_loop.proofs.Lists.{contains_none, extended_twice, same_ran, told_then, history-append}
 use Rattle.worker_loop.proofs.Frames.{client_told}
 use Rattle.worker_loop.proofs.Stops.{requests_all, no_end, same_cause}
-
-cancel : (xs ys zs : List Event) → xs ++ ys ≡ xs ++ zs → ys ≡ zs
-cancel [] ys zs is = is
-cancel (x ∷ xs) ys zs is = cancel xs ys zs cc
-
--- one log goes on in one way
-same_ran : (told : Option (List Event)) (before a b : List Event) → told ≡ Some before → extended told a ≡ extended told b → a ≡ b
-same_ran None before a b some is = cc
-same_ran (Some log) before a b some is = cancel log a b cc
 
 -- an open connection that is settled
 stood : {at : Seen} {gs : List Plan} {steps : List Step} {l : Lately} (c : Conn) → Tracks at gs steps c → Calm l c
@@ -54,7 +45,7 @@ stood {at} {gs} {steps} {l} c t calm = told_then at.log (Shows steps) (λ had. I
 
 -- a connection that ended by itself
 ended : {base now : Seen} {gs : List Plan} (before ran : List Event) (link : ℕ) (cause : EndCause) → IsServed base now gs (before ++ ran) link → Contains (notes (history_of link ran)) (end_note link cause)
-    → cause ≢ Stopped → cause ≢ Memory → IsWellServed cause ⊥ (0 < now.faults link) (before ++ ran) link
+    → cause ≢ Stopped → cause ≢ Memory → IsWellServed cause ⊥ (failures_of link (before ++ ran) ≢ []) (before ++ ran) link
 ended {base} {now} {gs} before ran link cause s has not_stopped not_memory = record {
   entry = s.entry;
   peer = s.peer;
@@ -62,13 +53,13 @@ ended {base} {now} {gs} before ran link cause s has not_stopped not_memory = rec
   arrived = s.served.arrived;
   client = s.client;
   shows = s.shows;
-  complete = λ items fair. subst (λ (x : EndCause). IsComplete x ⊥ (0 < now.faults link) link s.entry s.peer s.steps items) same
+  complete = λ items fair. subst (λ (x : EndCause). IsComplete x ⊥ (failures_of link (before ++ ran) ≢ []) link s.entry s.peer s.steps items) same
       (served_complete items s.served fair (λ e. not_stopped (sym same ∙ e)) (λ e. not_memory (sym same ∙ e)));
 }
   where
     told : Contains (notes (history link s.steps)) (end_note link cause)
     told = subst (λ (ns : List Note). Contains ns (end_note link cause))
-        (sym (ap notes (s.client ∙ history-append link before ran) ∙ flat_map-append note_by (history_of link before) (history_of link ran)))
+        (sym (ap notes (s.client.events ∙ history-append link before ran) ∙ flat_map-append note_by (history_of link before) (history_of link ran)))
         (Contains-append_right (notes (history_of link before)) (notes (history_of link ran)) (end_note link cause) has)
 
     same : s.served.cause ≡ cause
@@ -78,7 +69,7 @@ ended {base} {now} {gs} before ran link cause s has not_stopped not_memory = rec
     ]
 
 -- each end that the run noted
-pub all_complete : {g gs : List Plan} {l : Lately} {conns conns' : Slab Conn} (first : Slab Conn) (base at now : Seen) (links : ℕ) → StoppedAfter first base at l now g conns links → Runs base now gs conns' → AllComplete base at l now
+pub all_complete : {g gs : List Plan} {l : Lately} {conns conns' : Slab Conn} (first : Slab Conn) (base at now : Seen) (links : ℕ) → StoppedAfter first base at l now g conns links → Runs first base now gs conns' → AllComplete base at l now
 all_complete {g} {gs} {l} {conns} {conns'} first base at now links s r = record { ran = r.ran; log = r.log; says = by base.log refl r.over }
   where
     whole : extended base.log r.ran ≡ extended base.log (s.unstopped.ran ++ s.ended.ran)
@@ -103,7 +94,7 @@ all_complete {g} {gs} {l} {conns} {conns'} first base at now links s r = record 
       | inr here ↦ late link (s.ended.notes_on link) here
     ]
 
-    says : (before : List Event) → base.log ≡ Some before → EndsOver base now gs r.steps before r.ran → (link : ℕ) (cause : EndCause) → Contains (notes (history_of link r.ran)) (end_note link cause) → EndSays at l now (before ++ r.ran) link cause
+    says : (before : List Event) → base.log ≡ Some before → EndsServedApart base now gs r.steps before r.ran → (link : ℕ) (cause : EndCause) → Contains (notes (history_of link r.ran)) (end_note link cause) → EndSays at l (before ++ r.ran) link cause
     says before is over link Memory has = inl refl
     says before is over link Stopped has = inr (inr (refl, stopped before is link has))
     says before is over link Client has = inr (inl (ended before r.ran link Client (over link Client has).is_served has (λ e. cc) (λ e. cc)))
@@ -116,7 +107,7 @@ all_complete {g} {gs} {l} {conns} {conns'} first base at now links s r = record 
     says before is over link (Cut m) has = inr (inl (ended before r.ran link (Cut m) (over link (Cut m) has).is_served has (λ e. cc) (λ e. cc)))
     says before is over link (CutLate b n) has = inr (inl (ended before r.ran link (CutLate b n) (over link (CutLate b n) has).is_served has (λ e. cc) (λ e. cc)))
 
-    by : (o : Option (List Event)) → base.log ≡ o → IfSome o (λ before. EndsOver base now gs r.steps before r.ran)
-        → IfSome o (λ before. (link : ℕ) (cause : EndCause) → Contains (notes (history_of link r.ran)) (end_note link cause) → EndSays at l now (before ++ r.ran) link cause)
+    by : (o : Option (List Event)) → base.log ≡ o → IfSome o (λ before. EndsServedApart base now gs r.steps before r.ran)
+        → IfSome o (λ before. (link : ℕ) (cause : EndCause) → Contains (notes (history_of link r.ran)) (end_note link cause) → EndSays at l (before ++ r.ran) link cause)
     by None is over = tt
     by (Some before) is over = says before is over

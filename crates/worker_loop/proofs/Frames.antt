@@ -6,12 +6,12 @@ use Rattle.std.proofs.lemmas.Bool.{cases_eq}
 use Rattle.std.proofs.lemmas.Bool.Decides.{nat_tests}
 use Rattle.std.proofs.lemmas.List.{append-nil}
 use Rattle.ip_net.specs.declared.ip.Ip.{Ip}
-use Rattle.link_world.specs.Log.{Event, LinkEvent, waited, clock, on, closed, stop, IsFresh, is_of, only_if, happening, history_of}
+use Rattle.link_world.specs.Log.{Event, LinkEvent, waited, wait_failed, clock, on, failed, closed, asked, IsFresh, is_of, only_if, happening, history_of, failure, failures_of}
 use Rattle.link_world.specs.Seen.{Seen, Rose}
 use Rattle.link_world.specs.declared.note.EndCause.{EndCause}
 use Rattle.link_world.specs.declared.note.EndCause.TheVariants.{Client, ClientFailed, Asked, Refused, Unread, Idle, Count, Cut, CutLate, Stopped, Memory}
 use Rattle.conversation.specs.Plans.{Plan}
-use Rattle.conversation.specs.Steps.{Step, history, pins, IsNew}
+use Rattle.conversation.specs.Steps.{Step, history, failures, pins, IsNew}
 use Rattle.conversation.specs.Turns.{Turn, BackLink, IsLinkTold}
 use Rattle.conversation.specs.Served.{Served, EndHolds, IfLast, IsAnswered}
 use Rattle.conn_machine.specs.Reached.{Reached, PhaseHolds, pending_of}
@@ -24,28 +24,49 @@ use Rattle.conn_machine.specs.declared.parts.Phase.TheVariants.{Open}
 use Rattle.desk.specs.Desks.{Grew}
 use Rattle.conn_service.specs.Went.{extended}
 use Rattle.conn_service.specs.Pins.{IsBelow}
-use Rattle.worker_loop.specs.Owned.{AreApart, Shows, AreCounted, HaveCome, Tracks, put}
-use Rattle.worker_loop.specs.Runs.{Stopping, IsServed, IsOver}
-use Rattle.worker_loop.proofs.Lists.{true_or_false, told_step, history_quiet, new_none, grew_all}
+use Rattle.worker_loop.specs.Owned.{AreApart, TellsAll, Shows, HaveCome, Tracks, put}
+use Rattle.worker_loop.specs.Runs.{Stopping, IsServed, IsServedApart}
+use Rattle.worker_loop.proofs.Lists.{true_or_false, told_step, history_quiet, failures_quiet, new_none, grew_all}
 
 pub history_fresh : (link : ℕ) (log : List Event) → IsFresh link log → history_of link log ≡ []
 history_fresh link [] h = refl
 history_fresh link (e ∷ log) h = rw (happening_other link e h.0) (history_fresh link log h.1)
   where
     happening_other : (l : ℕ) (e : Event) → is_of l e ≡ false → happening l e ≡ []
-    happening_other l waited is = refl
+    happening_other l (waited n) is = refl
+    happening_other l (wait_failed n) is = refl
     happening_other l (clock n) is = refl
-    happening_other l (on m x) is = ap (λ (b : Bool). only_if b (x ∷ [])) is
-    happening_other l (closed m) is = refl
-    happening_other l stop is = refl
+    happening_other l (on m n x) is = ap (λ (b : Bool). only_if b (x ∷ [])) is
+    happening_other l (failed m n) is = refl
+    happening_other l (closed m n) is = refl
+    happening_other l (asked b) is = refl
+
+pub failures_fresh : (link : ℕ) (log : List Event) → IsFresh link log → failures_of link log ≡ []
+failures_fresh link [] h = refl
+failures_fresh link (e ∷ log) h = rw (failure_other link e h.0) (failures_fresh link log h.1)
+  where
+    failure_other : (l : ℕ) (e : Event) → is_of l e ≡ false → failure l e ≡ []
+    failure_other l (waited n) is = refl
+    failure_other l (wait_failed n) is = refl
+    failure_other l (clock n) is = refl
+    failure_other l (on m n x) is = refl
+    failure_other l (failed m n) is = ap (λ (b : Bool). only_if b (tt ∷ [])) is
+    failure_other l (closed m n) is = refl
+    failure_other l (asked b) is = refl
+
+-- of the link the log tells nothing
+abbrev pub IsBlank : ℕ → List Event → Type 0
+IsBlank l log = (history_of l log ≡ []) × (failures_of l log ≡ [])
+
+pub blank_fresh : (link : ℕ) (log : List Event) → IsFresh link log → IsBlank link log
+blank_fresh link log h = (history_fresh link log h, failures_fresh link log h)
 
 -- these events happened, all of them on links of which `mine` tells or that had not come
 pub record Passed (now new : Seen) (ran : List Event) (mine : List Step) : Type 0 where
   pub log : new.log ≡ extended now.log ran
-  pub quiet : (l : ℕ) → now.come l ≡ true → IsNew l mine → history_of l ran ≡ []
+  pub quiet : (l : ℕ) → now.come l ≡ true → IsNew l mine → IsBlank l ran
   pub still : (l : ℕ) → now.come l ≡ true → IsNew l mine → new.is_open l ≡ now.is_open l
   pub come : (l : ℕ) → now.come l ≡ true → new.come l ≡ true
-  pub faults : (l : ℕ) → now.faults l ≤ new.faults l
   pub stops : now.stops ≤ new.stops
   pub waits : now.waits_failed ≤ new.waits_failed
 
@@ -77,6 +98,13 @@ has_come now l h told = elim (true_or_false (now.come l)) [ inl is ↦ is | inr 
 pub no_more_told : {mine other : List Step} (l : ℕ) → AreApart other mine → (IsNew l other → ⊥) → IsNew l mine
 no_more_told l apart told = elim (apart l) [ inl q ↦ absurd (told q) | inr q ↦ q ]
 
+-- of this link the longer log tells no more
+pub tells_kept : (l : ℕ) (steps : List Step) (log ran : List Event) → IsBlank l ran → TellsAll l steps log → TellsAll l steps (log ++ ran)
+tells_kept l steps log ran blank t = record {
+  events = t.events ∙ sym (history_quiet l log ran blank.0);
+  faults = t.faults ∙ sym (failures_quiet l log ran blank.1);
+}
+
 -- what others were told is all that the longer log tells
 pub shows_kept : {now new : Seen} {ran : List Event} {mine other : List Step} → Passed now new ran mine → HaveCome now other → AreApart other mine → (log : List Event) → Shows other log → Shows other (log ++ ran)
 shows_kept {now} {new} {ran} {mine} {other} p h apart log s l = elim (s l) [
@@ -85,13 +113,10 @@ shows_kept {now} {new} {ran} {mine} {other} p h apart log s l = elim (s l) [
     | inr not ↦ inl (h l not)
     | inl is ↦ elim (apart l) [
       | inl q ↦ inl q
-      | inr q ↦ inr (e ∙ sym (history_quiet l log ran (p.quiet l is q)))
+      | inr q ↦ inr (tells_kept l other log ran (p.quiet l is q) e)
     ]
   ]
 ]
-
-pub counted_kept : {now new : Seen} {ran : List Event} {mine : List Step} (other : List Step) → Passed now new ran mine → AreCounted now other → AreCounted new other
-counted_kept other p h l some = let less = h l some in let le = p.faults l in omega (arith, less, le)
 
 -- an open connection was told of its client's link
 pub client_told : {steps : List Step} {c : Conn} → Reached steps c → IsNew c.client.link steps → ⊥
@@ -148,7 +173,6 @@ tracks_kept {now} {new} {ran} {f} {g} {mine} {other} {x} p grew apart t = record
     below = grew_below f g x.current.number grew t.ready.below;
   };
   held = grew_all f g (pins other) grew t.held;
-  counted = counted_kept other p t.counted;
   unstopped = t.unstopped;
   shows = subst (λ (o : Option (List Event)). IfSome o (Shows other)) (sym p.log)
       (told_step now.log ran (Shows other) (Shows other) (λ log s. shows_kept p t.stands.fresh apart log s) t.shows);
@@ -186,6 +210,7 @@ served_weaker {f} {g} {link} {entry} {peer} {steps} {A} {B} {A'} {B'} grew ka kb
   picked = s.picked;
   refused = s.refused;
   own = s.own;
+  links = s.links;
   published = grew_all f g (pins steps) grew s.published;
   rising = s.rising;
   numbered = s.numbered;
@@ -209,15 +234,16 @@ served_told s new = let e = s.arrived.1 in let q = new.quiet in cc
 
 -- it was served by the longer log too
 pub is_served_kept : {base now new : Seen} {ran : List Event} {f g : List Plan} {mine : List Step} {log : List Event} {link : ℕ} → Passed now new ran mine → Grew f g → (o : IsServed base now f log link) → HaveCome now o.steps → AreApart o.steps mine → IsServed base new g (log ++ ran) link
-is_served_kept {base} {now} {new} {ran} {f} {g} {mine} {log} {link} p grew o h apart = record {
-  entry = o.entry;
-  peer = o.peer;
-  steps = o.steps;
-  served = served_weaker grew (λ x. let le = p.faults link in omega (arith, x, le)) (stopping_later now new base p.stops p.waits) o.served;
-  client = o.client ∙ sym (history_quiet link log ran (p.quiet link (has_come now link h (served_told o.served)) (no_more_told link apart (served_told o.served))));
-  shows = shows_kept p h apart log o.shows;
-  counted = counted_kept o.steps p o.counted;
-}
+is_served_kept {base} {now} {new} {ran} {f} {g} {mine} {log} {link} p grew o h apart =
+    let blank = p.quiet link (has_come now link h (served_told o.served)) (no_more_told link apart (served_told o.served)) in
+    record {
+      entry = o.entry;
+      peer = o.peer;
+      steps = o.steps;
+      served = served_weaker grew (λ some none. some (sym (failures_quiet link log ran blank.1) ∙ none)) (stopping_later now new base p.stops p.waits) o.served;
+      client = tells_kept link o.steps log ran blank o.client;
+      shows = shows_kept p h apart log o.shows;
+    }
 
 -- what a link has that comes at a key doesn't take a link that came before
 abbrev pub Grows : Seen → List Step → List Step → Type 0
@@ -230,7 +256,7 @@ apart_next now grows h apart l = elim (true_or_false (now.come l)) [
 ]
 
 -- and its links stay no others'
-pub over_kept : {base now new : Seen} {ran : List Event} {f g : List Plan} {steps : ℕ → List Step} {log : List Event} {link : ℕ} (key : ℕ) (next : List Step) → Passed now new ran (steps key) → Grew f g → Grows now (steps key) next → IsOver base now f steps log link → IsOver base new g (put steps key next) (log ++ ran) link
+pub over_kept : {base now new : Seen} {ran : List Event} {f g : List Plan} {steps : ℕ → List Step} {log : List Event} {link : ℕ} (key : ℕ) (next : List Step) → Passed now new ran (steps key) → Grew f g → Grows now (steps key) next → IsServedApart base now f steps log link → IsServedApart base new g (put steps key next) (log ++ ran) link
 unfolding is_served_kept
 over_kept {base} {now} {new} {ran} {f} {g} {steps} {log} {link} key next p grew grows o = record {
   is_served = is_served_kept p grew o.is_served o.come (o.apart key);
@@ -242,7 +268,7 @@ over_kept {base} {now} {new} {ran} {f} {g} {steps} {log} {link} key next p grew 
 }
 
 -- the same where nothing happened on a connection's link
-pub over_quiet : {base now new : Seen} {ran : List Event} {f : List Plan} {steps : ℕ → List Step} {log : List Event} {link : ℕ} → Passed now new ran [] → IsOver base now f steps log link → IsOver base new f steps (log ++ ran) link
+pub over_quiet : {base now new : Seen} {ran : List Event} {f : List Plan} {steps : ℕ → List Step} {log : List Event} {link : ℕ} → Passed now new ran [] → IsServedApart base now f steps log link → IsServedApart base new f steps (log ++ ran) link
 unfolding is_served_kept
 over_quiet {base} {now} {new} {ran} {f} {steps} {log} {link} p o = record {
   is_served = is_served_kept p ([], sym (append-nil f)) o.is_served o.come apart_none;

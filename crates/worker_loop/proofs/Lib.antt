@@ -1,5 +1,7 @@
 pub mod Lists
 pub mod Frames
+pub mod Ownings
+pub mod Distincts
 pub mod Servings
 pub mod Comings
 pub mod Accountings
@@ -7,3 +9,4 @@ pub mod Places
 pub mod Meetings
 pub mod Stops
 pub mod Completions
+pub mod Roundings

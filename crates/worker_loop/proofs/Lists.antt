@@ -5,7 +5,7 @@ use Rattle.std.specs.List.{AllByRecursion, Contains}
 use Rattle.std.proofs.lemmas.List.{append-nil, append_assoc}
 use Rattle.std.proofs.lemmas.List.Concat.{flat_map-append}
 use Rattle.std.proofs.lemmas.List.Elements.{Contains-append_left}
-use Rattle.link_world.specs.Log.{Event, LinkEvent, happening, history_of}
+use Rattle.link_world.specs.Log.{Event, LinkEvent, happening, history_of, failure, failures_of}
 use Rattle.conversation.specs.Plans.{Plan}
 use Rattle.conversation.specs.Steps.{Step, history, history_by, failures, failures_by, IsNew}
 use Rattle.desk.specs.Desks.{Grew}
@@ -45,6 +45,15 @@ pub extended_none : (told : Option (List Event)) → told ≡ extended told []
 extended_none None = refl
 extended_none (Some log) = ap (λ (l : List Event). Some l) (sym (append-nil log))
 
+cancel : (xs ys zs : List Event) → xs ++ ys ≡ xs ++ zs → ys ≡ zs
+cancel [] ys zs is = is
+cancel (x ∷ xs) ys zs is = cancel xs ys zs cc
+
+-- one log goes on in one way
+pub same_ran : (told : Option (List Event)) (before a b : List Event) → told ≡ Some before → extended told a ≡ extended told b → a ≡ b
+same_ran None before a b some is = cc
+same_ran (Some log) before a b some is = cancel log a b cc
+
 -- what holds of a log that is told goes on to the longer one
 pub told_step : (told : Option (List Event)) (ran : List Event) (P Q : List Event → Type 0) → ((log : List Event) → P log → Q (log ++ ran)) → IfSome told P → IfSome (extended told ran) Q
 told_step None ran P Q f h = tt
@@ -78,8 +87,18 @@ history-append link a b = flat_map-append (happening link) a b
 pub history_quiet : (l : ℕ) (log ran : List Event) → history_of l ran ≡ [] → history_of l (log ++ ran) ≡ history_of l log
 history_quiet l log ran is = history-append l log ran ∙ ap (λ (h : List LinkEvent). history_of l log ++ h) is ∙ append-nil (history_of l log)
 
+pub failures-append : (link : ℕ) (a b : List Event) → failures_of link (a ++ b) ≡ failures_of link a ++ failures_of link b
+failures-append link a b = flat_map-append (failure link) a b
+
+-- and so do the faults
+pub failures_quiet : (l : ℕ) (log ran : List Event) → failures_of l ran ≡ [] → failures_of l (log ++ ran) ≡ failures_of l log
+failures_quiet l log ran is = failures-append l log ran ∙ ap (λ (h : List (Unit {0})). failures_of l log ++ h) is ∙ append-nil (failures_of l log)
+
 pub steps-append : (link : ℕ) (a b : List Step) → history link (a ++ b) ≡ history link a ++ history link b
 steps-append link a b = flat_map-append (history_by link) a b
+
+pub faults-append : (link : ℕ) (a b : List Step) → failures link (a ++ b) ≡ failures link a ++ failures link b
+faults-append link a b = flat_map-append (failures_by link) a b
 
 pub new_none : {l : ℕ} → IsNew l []
 new_none = record { quiet = refl; sound = refl }

@@ -11,9 +11,8 @@ use Rattle.link_world.specs.declared.note.NoteBody.{NoteBody}
 use Rattle.link_world.specs.declared.note.NoteBody.TheVariants as body
 use Rattle.link_world.specs.declared.note.EndCause.{EndCause}
 use Rattle.link_world.specs.declared.note.EndCause.TheVariants.{Stopped}
-use Rattle.link_world.specs.declared.world.Arrival.{Arrival}
-use Rattle.link_world.specs.Log.{Event, LinkEvent, came, waited, clock, closed, on, history_of, notes, note_by}
-use Rattle.link_world.specs.Seen.{Seen, Came, CloseDid, NowDid, WaitDid}
+use Rattle.link_world.specs.Log.{Event, LinkEvent, waited, asked, history_of, notes, note_by}
+use Rattle.link_world.specs.Seen.{Seen, StopDid, WaitDid}
 use Rattle.conversation.specs.Plans.{Plan}
 use Rattle.conversation.specs.Steps.{Step, history, failures, stops}
 use Rattle.conversation.specs.Turns.{Turn}
@@ -28,7 +27,6 @@ use Rattle.worker_loop.specs.Owned.{Tracks}
 use Rattle.worker_loop.specs.Settled.{EndsOnly, NoneStopped}
 use Rattle.worker_loop.proofs.Lists.{all_both, none_is, contains_none, extended_twice, extended_none, history-append, steps-append}
 use Rattle.worker_loop.proofs.Servings.{Moved, Strayed, went_stops, ends_went}
-use Rattle.worker_loop.proofs.Comings.{came_mute}
 
 -- the notes of requests are no ends
 pub requests : (link : ℕ) (done : List Turn) → AllByRecursion IsRequestNote (flat_map (notes_of link) done)
@@ -110,22 +108,11 @@ stopless_mute now new ran log mute = record {
   none = λ link has. contains_none (end_note link Stopped) (subst (λ (ns : List Note). Contains ns (end_note link Stopped)) (mute link) has);
 }
 
-pub stopless_clock : (now new : Seen) (n : ℕ) → NowDid now n new → NoneStopped now new
-stopless_clock now new n (inl did) = stopless_same now new did.1
-stopless_clock now new n (inr did) = stopless_mute now new (clock n ∷ []) (ap (λ (s : Seen). s.log) did.1) (λ l. refl)
+pub stopless_wait : (now new : Seen) (until : ℕ) → WaitDid now until (Ok tt) new → NoneStopped now new
+stopless_wait now new until is = stopless_mute now new (waited until ∷ []) (ap (λ (s : Seen). s.log) is) (λ l. refl)
 
-pub stopless_wait : (now new : Seen) → WaitDid now (Ok tt) new → NoneStopped now new
-stopless_wait now new is = stopless_mute now new (waited ∷ []) (ap (λ (s : Seen). s.log) is) (λ l. refl)
-
-pub stopless_came : (now new : Seen) (a : Arrival) → Came now a.link (came a.entry a.peer) new → NoneStopped now new
-stopless_came now new a arrival = stopless_mute now new (on a.link (came a.entry a.peer) ∷ []) (ap (λ (s : Seen). s.log) arrival.same) (λ l. came_mute l a.link a.entry a.peer)
-
-pub stopless_close : (now : Seen) (link : ℕ) (new : Seen) → CloseDid now link new → NoneStopped now new
-stopless_close now link new did = by (now.is_open link) refl
-  where
-    by : (b : Bool) → now.is_open link ≡ b → NoneStopped now new
-    by true is = stopless_mute now new (closed link ∷ []) (ap (λ (s : Seen). s.log) (did.0 is).same) (λ l. refl)
-    by false is = stopless_same now new (did.1 is)
+pub stopless_unasked : (now new : Seen) → StopDid now false new → NoneStopped now new
+stopless_unasked now new is = stopless_mute now new (asked false ∷ []) (ap (λ (s : Seen). s.log) is) (λ l. refl)
 
 -- an end that was noted while a connection was served is told by its steps
 told_late : {S : Type 0} {now new : Seen} {f g gs : List Plan} {c d : Conn} {steps : List Step} → Tracks now gs steps c → (w : Moved S now new f g c d) → (link : ℕ) (cause : EndCause) → Contains (notes (history_of link w.ran)) (end_note link cause)
@@ -142,15 +129,8 @@ told_late {c = c} {d = d} {steps = steps} t w link cause has = elim (cases_eq li
 ]
 
 -- one connection was served
-pub stopless_went : {now new : Seen} {f g gs : List Plan} {c d : Conn} {steps : List Step} → Tracks now gs steps c → Moved ⊥ now new f g c d → NoneStopped now new
-stopless_went {c = c} {d = d} {steps = steps} t w = record {
-  ran = w.ran;
-  log = w.log;
-  none = λ link has. never_stopped {d = d} (w.stands steps t.stands).reached (none_is (stops (steps ++ w.did)) (went_stops steps w t.unstopped)) (told_late t w link Stopped has);
-}
-
-pub stopless_lost : {now new : Seen} {f g gs : List Plan} {c : Conn} {steps : List Step} → Tracks now gs steps c → Strayed ⊥ now new f g c → NoneStopped now new
-stopless_lost t (d, w, un) = stopless_went t w
+pub stopless_went : {now new : Seen} {f g gs : List Plan} {c d : Conn} {steps : List Step} → Tracks now gs steps c → (w : Moved ⊥ now new f g c d) → (link : ℕ) → Contains (notes (history_of link w.ran)) (end_note link Stopped) → ⊥
+stopless_went {c = c} {d = d} {steps = steps} t w link has = never_stopped {d = d} (w.stands steps t.stands).reached (none_is (stops (steps ++ w.did)) (went_stops steps w t.unstopped)) (told_late t w link Stopped has)
 
 -- a machine that ended for a stop has no other end
 told_stopped : {steps : List Step} {d : Conn} → Reached steps d → d.phase ≡ Told Stopped → (cause : EndCause) → Contains (notes (history d.client.link steps)) (end_note d.client.link cause) → cause ≡ Stopped

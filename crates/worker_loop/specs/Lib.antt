@@ -2,5 +2,8 @@ pub mod Owned
 pub mod Runs
 pub mod Settled
 pub mod Accounts
+pub mod Named
 pub mod Met
 pub mod Complete
+pub mod Rounds
+pub mod Stamps

@@ -1,9 +1,9 @@
 -- When nothing more can be done before the next wait.
-use Rattle.std.specs.Prelude.{◌≡◌, ◌⊎◌, ℕ, ◌≤◌, List, [], Some, true}
-use Rattle.std.specs.List.{Contains}
+use Rattle.std.specs.Prelude.{◌≡◌, ◌⊎◌, ℕ, ◌≤◌, List, [], ◌∷◌, Some, true}
+use Rattle.std.specs.List.{AllByRecursion, Contains}
 use Rattle.slab.specs.Slab.{Slab, get, slab_len}
 use Rattle.link_world.specs.Lately.{Lately}
-use Rattle.link_world.specs.Log.{Event, history_of, notes}
+use Rattle.link_world.specs.Log.{Event, asked, history_of, notes}
 use Rattle.link_world.specs.Seen.{Seen, Rose}
 use Rattle.link_world.specs.declared.note.EndCause.{EndCause}
 use Rattle.link_world.specs.declared.note.EndCause.TheVariants.{Stopped}
@@ -12,7 +12,7 @@ use Rattle.conversation.specs.Served.{end_note}
 use Rattle.conn_machine.specs.declared.conn.Conn.{Conn}
 use Rattle.conn_service.specs.Calm.{Calm}
 use Rattle.conn_service.specs.Went.{extended}
-use Rattle.conn_service.specs.Farewell.{OnlyTells}
+use Rattle.conn_service.specs.Farewell.{IsFarewell}
 use Rattle.worker_loop.specs.Met.{IsSomebodys, Meets}
 use Rattle.worker_loop.specs.Runs.{Runs}
 
@@ -42,18 +42,24 @@ pub record NoneStopped (old new : Seen) : Type 0 where
   pub log : new.log ≡ extended old.log ran
   pub none : (link : ℕ) → Contains (notes (history_of link ran)) (end_note link Stopped) → ⊥
 
+-- since then a stop was asked for first of all, and then links were closed and notes told
+pub record StopTold (old new : Seen) : Type 0 where
+  pub farewells : List Event
+  pub log : new.log ≡ extended old.log (asked true ∷ farewells)
+  pub are_farewells : AllByRecursion IsFarewell farewells
+
 -- A run that began with these connections came to a moment after a turn, at which these are open and nothing more could be
--- done. No client was forgotten until then, and none was ended for a stop. A stop was asked for at that moment, and then
--- links were closed and notes told, on the links of these connections, and nothing else was done.
+-- done. No client was forgotten until then, and none was ended for a stop. The first thing behind that moment is the stop
+-- that was asked for; then links were closed and notes told, on the links of these connections, and nothing else was done.
 pub record StoppedAfter (first : Slab Conn) (base at : Seen) (l : Lately) (new : Seen) (generations : List Plan) (conns : Slab Conn) (links : ℕ) : Type 0 where
-  pub runs : Runs base at generations conns
+  pub runs : Runs first base at generations conns
   pub met : Meets first base at conns
   pub unstopped : NoneStopped base at
   pub done : TurnDone l conns links
   pub before : at.stops ≡ base.stops
-  pub asked : Rose at.stops new.stops
+  pub rose : Rose at.stops new.stops
   pub ended : EndsOnly at new conns
-  pub tells : OnlyTells at new
+  pub told : StopTold at new
 
 -- the clock and the arrivals were asked as before
 pub record SameTurn (old new : Lately) : Type 0 where

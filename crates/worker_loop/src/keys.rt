@@ -9,8 +9,8 @@ ghost use Rattle.worker_loop.specs.Met.{Meets};
 ghost use Rattle.worker_loop.specs.Runs.{Attends, Attended, Runs, Stopping, IsStopping, Unasked};
 ghost use Rattle.desk.specs.Desks.{Desk};
 ghost use Rattle.worker_loop.specs.Accounts.{Accounts};
-ghost use Rattle.worker_loop.specs.Settled.{SettledUnder, SameTurn, EndsOnly, NoneStopped};
-ghost use Rattle.conn_service.specs.Farewell.{OnlyTells};
+ghost use Rattle.worker_loop.specs.Rounds.{Worked, Parted};
+ghost use Rattle.worker_loop.specs.Settled.{SettledUnder, SameTurn, EndsOnly};
 
 use crate::worker::Worker;
 use conn_service::{quit, serve, stop};
@@ -32,11 +32,11 @@ impl Worker {
         shared: &mut S,
     ) -> Result<bool, Memory>
         requires { Attends (W.seen world.old) (S.desk shared.old).generations self.old.conns }
-        ensures runs { (base : Seen) → Runs base (W.seen world.old) (S.desk shared.old).generations self.old.conns
-            → Runs base (W.seen world.new) (S.desk shared.new).generations self.new.conns }
+        ensures runs { (first : Slab Conn) (base : Seen) → Runs first base (W.seen world.old) (S.desk shared.old).generations self.old.conns
+            → Runs first base (W.seen world.new) (S.desk shared.new).generations self.new.conns }
         ensures stops { (W.seen world.new).stops ≡ (W.seen world.old).stops }
         ensures grew { Grew (S.desk shared.old).generations (S.desk shared.new).generations }
-        ensures unstopped { NoneStopped (W.seen world.old) (W.seen world.new) }
+        ensures worked { Worked (W.seen world.old) (W.seen world.new) }
         ensures links { self.new.links ≡ self.old.links }
         ensures found { IfOk result (λ found. found ≡ is_some (get self.old.conns key)) }
         ensures fewer { slab_len self.new.conns ≤ slab_len self.old.conns }
@@ -76,11 +76,11 @@ impl Worker {
     // Ends the connection under a key, if there is one, where the worker stops.
     fn stop_key<W: World>(&mut self, alloc: Global, key: usize, world: &mut W) -> Result<(), Memory>
         requires { IsStopping (W.seen world.old) self.old.conns }
-        ensures runs { (base : Seen) (g : List Plan) → Stopping base (W.seen world.old) → Runs base (W.seen world.old) g self.old.conns
-            → Runs base (W.seen world.new) g self.new.conns × Stopping base (W.seen world.new) }
+        ensures runs { (first : Slab Conn) (base : Seen) (g : List Plan) → Stopping base (W.seen world.old)
+            → Runs first base (W.seen world.old) g self.old.conns → Runs first base (W.seen world.new) g self.new.conns × Stopping base (W.seen world.new) }
         ensures unasked { Unasked (W.seen world.old) (W.seen world.new) }
         ensures ends { EndsOnly (W.seen world.old) (W.seen world.new) self.old.conns }
-        ensures tells { OnlyTells (W.seen world.old) (W.seen world.new) }
+        ensures parted { Parted (W.seen world.old) (W.seen world.new) }
         ensures gone { get self.new.conns key ≡ None }
         ensures others { (k : ℕ) → k ≢ key → get self.new.conns k ≡ get self.old.conns k }
         ensures accounts { (base : Seen) (from to : Desk) → OnOk result (Accounts base (W.seen world.old) from to self.old.conns
@@ -100,11 +100,11 @@ impl Worker {
     /// Ends all connections, each whatever became of the others. Answers whether each note found room.
     pub(crate) fn stop_all<W: World>(&mut self, alloc: Global, world: &mut W) -> bool
         requires { IsStopping (W.seen world.old) self.old.conns }
-        ensures runs { (base : Seen) (g : List Plan) → Stopping base (W.seen world.old) → Runs base (W.seen world.old) g self.old.conns
-            → Runs base (W.seen world.new) g self.new.conns }
+        ensures runs { (first : Slab Conn) (base : Seen) (g : List Plan) → Stopping base (W.seen world.old)
+            → Runs first base (W.seen world.old) g self.old.conns → Runs first base (W.seen world.new) g self.new.conns }
         ensures unasked { Unasked (W.seen world.old) (W.seen world.new) }
         ensures ends { EndsOnly (W.seen world.old) (W.seen world.new) self.old.conns }
-        ensures tells { OnlyTells (W.seen world.old) (W.seen world.new) }
+        ensures parted { Parted (W.seen world.old) (W.seen world.new) }
         ensures ended { (k : ℕ) → get self.new.conns k ≡ None }
         ensures accounts { (base : Seen) (from to : Desk) → result ≡ true → Accounts base (W.seen world.old) from to self.old.conns
             → Accounts base (W.seen world.new) from to self.new.conns }
@@ -120,11 +120,13 @@ impl Worker {
         all
     }
 
-    // Ends the connection under a key, if there is one, where the worker found no memory.
+    // Ends the connection under a key, if there is one, where memory runs out.
     fn quit_key<W: World>(&mut self, alloc: Global, key: usize, world: &mut W) -> Result<(), Memory>
         requires { Attended (W.seen world.old) self.old.conns }
-        ensures runs { (base : Seen) (g : List Plan) → Runs base (W.seen world.old) g self.old.conns
-            → Runs base (W.seen world.new) g self.new.conns }
+        ensures runs { (first : Slab Conn) (base : Seen) (g : List Plan) → Runs first base (W.seen world.old) g self.old.conns
+            → Runs first base (W.seen world.new) g self.new.conns }
+        ensures worked { Worked (W.seen world.old) (W.seen world.new) }
+        ensures stops { (W.seen world.new).stops ≡ (W.seen world.old).stops }
         ensures gone { get self.new.conns key ≡ None }
         ensures others { (k : ℕ) → k ≢ key → get self.new.conns k ≡ get self.old.conns k }
     {
@@ -137,11 +139,13 @@ impl Worker {
         Ok(())
     }
 
-    /// Ends all connections where the worker found no memory.
+    /// Ends all connections where memory runs out.
     pub(crate) fn quit_all<W: World>(&mut self, alloc: Global, world: &mut W)
         requires { Attended (W.seen world.old) self.old.conns }
-        ensures runs { (base : Seen) (g : List Plan) → Runs base (W.seen world.old) g self.old.conns
-            → Runs base (W.seen world.new) g self.new.conns }
+        ensures runs { (first : Slab Conn) (base : Seen) (g : List Plan) → Runs first base (W.seen world.old) g self.old.conns
+            → Runs first base (W.seen world.new) g self.new.conns }
+        ensures worked { Worked (W.seen world.old) (W.seen world.new) }
+        ensures stops { (W.seen world.new).stops ≡ (W.seen world.old).stops }
         ensures ended { (k : ℕ) → get self.new.conns k ≡ None }
     {
         let end = self.conns.capacity();

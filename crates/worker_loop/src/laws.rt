@@ -1,5 +1,5 @@
 // What a caller of `turn` may do between two turns.
-ghost use Rattle.std.specs.Prelude.{List, Ok};
+ghost use Rattle.std.specs.Prelude.{ℕ, List, Ok};
 ghost use Rattle.conversation.specs.Plans.{Plan};
 ghost use Rattle.conn_machine.specs.declared.conn.Conn.{Conn};
 ghost use Rattle.desk.specs.Desks.{Grew};
@@ -14,5 +14,5 @@ pub fn attends_after_publications()
 
 /// And after a wait.
 pub fn attends_after_waits()
-    ensures { (now new : Seen) (g : List Plan) (conns : Slab Conn) → WaitDid now (Ok tt) new → Attends now g conns → Attends new g conns }
+    ensures { (now new : Seen) (until : ℕ) (g : List Plan) (conns : Slab Conn) → WaitDid now until (Ok tt) new → Attends now g conns → Attends new g conns }
 {}

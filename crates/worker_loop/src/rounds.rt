@@ -1,13 +1,14 @@
 //! A worker's run.
-ghost use Rattle.std.specs.Prelude.{◌≡◌, ◌≢◌, ◌++◌, ℕ, List, IfSome, None};
+ghost use Rattle.std.specs.Prelude.{◌≡◌, ◌≢◌, ◌⊎◌, ◌<◌, ◌++◌, ℕ, List, IfSome, None};
 ghost use Rattle.slab.specs.Slab.{Slab, get};
 ghost use Rattle.conn_machine.specs.declared.conn.Conn.{Conn};
 ghost use Rattle.worker_loop.specs.Settled.{EndsOnly, StoppedAfter};
 ghost use Rattle.worker_loop.specs.Complete.{AllComplete};
-ghost use Rattle.conn_service.specs.Farewell.{OnlyTells};
 ghost use Rattle.desk.specs.Desks.{Desk, Grew};
 ghost use Rattle.worker_loop.specs.Accounts.{Accounts};
-ghost use Rattle.worker_loop.specs.Met.{Meets, AllEnded};
+ghost use Rattle.worker_loop.specs.Met.{Meets, AllEnded, AllClosed, AllNamed, NotesOfClients};
+ghost use Rattle.worker_loop.specs.Named.{NamesDistinct};
+ghost use Rattle.worker_loop.specs.Rounds.{Leads, Parted, RanRounds};
 ghost use Rattle.link_world.specs.Log.{Event};
 ghost use Rattle.link_world.specs.Seen.{Seen, Rose};
 ghost use Rattle.conversation.specs.Plans.{Plan};
@@ -54,6 +55,17 @@ pub fn run_worker<R: Wait, W: World, S: Shared>(
     // The generations that the desk had seen come first among those that it has seen.
     ensures grew { Grew (S.desk shared.old).generations (S.desk shared.new).generations }
 
+    // It ran in rounds: work, one question whether to stop, one wait until a link has something new. A connection was
+    // ended for a stop only behind a question that was answered yes, or a wait that failed. Each event on a link carries
+    // the clock's last answer before it.
+    ensures rounds { (ran : List Event) × Leads (W.seen world.old) (W.seen world.new) ran × RanRounds result ran }
+
+    // Notes were told on the links of clients alone, that were there at the start or came in this run.
+    ensures noted { NotesOfClients worker.old.conns (W.seen world.old) (W.seen world.new) }
+
+    // No two requests that were noted in this run name one link, on one connection or on two.
+    ensures distinct { NamesDistinct (W.seen world.old) (W.seen world.new) }
+
     // No connection is open any more.
     ensures ended { (k : ℕ) → get worker.new.conns k ≡ None }
 
@@ -64,12 +76,19 @@ pub fn run_worker<R: Wait, W: World, S: Shared>(
 
     // No client is forgotten: the end of each that was there at the start or came in this run was noted in it.
     ensures met { result ≢ WorkerEnd.Memory → AllEnded worker.old.conns (W.seen world.old) (W.seen world.new) }
+
+    // Each link that was in use at the start, or was given in this run, is closed.
+    ensures closed { result ≢ WorkerEnd.Memory → AllClosed worker.old.conns (W.seen world.old) (W.seen world.new) }
+
+    // Each link that was dialled in this run is named by the note of a request.
+    ensures owned { result ≢ WorkerEnd.Memory → AllNamed (W.seen world.old) (W.seen world.new) }
     ensures stopped { result ≡ WorkerEnd.Stopped → Rose (W.seen world.old).stops (W.seen world.new).stops }
 
-    // The stop was asked for at a moment of this run at which all was settled, and then the open connections were ended.
-    // Where its links did what they should, each request of a connection that was ended has its whole reply.
-    ensures settled { result ≡ WorkerEnd.Stopped → (at : W) × (generations : List Plan) × (conns : Slab Conn)
-        × StoppedAfter worker.old.conns (W.seen world.old) (W.seen at) (W.lately at) (W.seen world.new) generations conns worker.old.links
+    // A stop was asked for right after a turn at whose end nothing more could be done, and then the open connections were
+    // ended. Of a connection whose client gave whole valid requests without a body and nothing else, each has its whole
+    // reply, or one of the excuses of `IsOver`; one that memory failed owes nothing.
+    ensures settled { (result ≡ WorkerEnd.Stopped) ⊎ ((W.seen world.old).stops < (W.seen world.new).stops) → (at : W) × (conns : Slab Conn)
+        × StoppedAfter worker.old.conns (W.seen world.old) (W.seen at) (W.lately at) (W.seen world.new) (S.desk shared.new).generations conns worker.old.links
         × AllComplete (W.seen world.old) (W.seen at) (W.lately at) (W.seen world.new) }
     ensures unasked { result ≡ WorkerEnd.WorldFault → (W.seen world.new).stops ≡ (W.seen world.old).stops }
     ensures fault { result ≡ WorkerEnd.WorldFault → Rose (W.seen world.old).waits_failed (W.seen world.new).waits_failed }
@@ -93,11 +112,11 @@ pub fn run_worker<R: Wait, W: World, S: Shared>(
 fn finish<W: World>(alloc: Global, worker: &mut Worker, world: &mut W, end: WorkerEnd) -> WorkerEnd
     requires { IsStopping (W.seen world.old) worker.old.conns }
     ensures same { result ≢ WorkerEnd.Memory → result ≡ end }
-    ensures runs { (base : Seen) (g : List Plan) → Stopping base (W.seen world.old) → Runs base (W.seen world.old) g worker.old.conns
-        → Runs base (W.seen world.new) g worker.new.conns }
+    ensures runs { (first : Slab Conn) (base : Seen) (g : List Plan) → Stopping base (W.seen world.old)
+        → Runs first base (W.seen world.old) g worker.old.conns → Runs first base (W.seen world.new) g worker.new.conns }
     ensures unasked { Unasked (W.seen world.old) (W.seen world.new) }
     ensures ends { EndsOnly (W.seen world.old) (W.seen world.new) worker.old.conns }
-    ensures tells { OnlyTells (W.seen world.old) (W.seen world.new) }
+    ensures parted { Parted (W.seen world.old) (W.seen world.new) }
     ensures ended { (k : ℕ) → get worker.new.conns k ≡ None }
     ensures accounts { (base : Seen) (from to : Desk) → result ≢ WorkerEnd.Memory → Accounts base (W.seen world.old) from to worker.old.conns
         → Accounts base (W.seen world.new) from to worker.new.conns }

@@ -1,15 +1,16 @@
 //! A worker's turn.
-ghost use Rattle.std.specs.Prelude.{◌≡◌, ◌≢◌, ◌≤◌, ◌+◌, ℕ, List, OnOk, OnErr, IfOk, IfSome, IfNone, true, false};
+ghost use Rattle.std.specs.Prelude.{◌≡◌, ◌≢◌, ◌≤◌, ◌+◌, ℕ, List, OnOk, OnErr, IfOk, IfSome, IfNone, None, true, false};
 ghost use Rattle.slab.specs.Slab.{get, slab_len, Slab as Slots};
 ghost use Rattle.conn_machine.specs.declared.conn.Conn.{Conn as Connection};
 ghost use Rattle.worker_loop.specs.Met.{Meets};
 ghost use Rattle.link_world.specs.Seen.{Seen, CloseDid};
 ghost use Rattle.link_world.specs.Lately.{OnlyAt};
 ghost use Rattle.conversation.specs.Plans.{Plan};
-ghost use Rattle.worker_loop.specs.Runs.{Attends, Attended, Runs, Began};
+ghost use Rattle.worker_loop.specs.Runs.{Attends, Attended, Runs, JustCame};
 ghost use Rattle.desk.specs.Desks.{Desk, Grew};
 ghost use Rattle.worker_loop.specs.Accounts.{Accounts};
-ghost use Rattle.worker_loop.specs.Settled.{SettledUnder, AllSettled, TurnDone, SameTurn, NoneStopped};
+ghost use Rattle.worker_loop.specs.Rounds.{Worked};
+ghost use Rattle.worker_loop.specs.Settled.{SettledUnder, AllSettled, TurnDone, SameTurn};
 
 use conn_machine::Conn;
 use conn_service::ROOM;
@@ -38,6 +39,7 @@ impl Worker {
     /// aren't counted.
     pub fn new(alloc: Global, links: u32) -> Result<Worker, Memory>
         requires { links ≤ 4096 }
+        ensures empty { IfOk result (λ worker. (k : ℕ) → get worker.conns k ≡ None) }
         ensures attends { (now : Seen) (generations : List Plan) → IfOk result (λ worker. Attends now generations worker.conns) }
         ensures links { IfOk result (λ worker. worker.links ≡ links) }
         ensures most { IfOk result (λ worker. slab_len worker.conns ≤ worker.links) }
@@ -66,12 +68,14 @@ impl Worker {
     ) -> Result<(), Memory>
         requires { Attends (W.seen world.old) (S.desk shared.old).generations self.old.conns }
 
-        // Whatever run led here goes on: each connection whose end it notes was served.
-        ensures runs { (base : Seen) → Runs base (W.seen world.old) (S.desk shared.old).generations self.old.conns
-            → Runs base (W.seen world.new) (S.desk shared.new).generations self.new.conns }
+        // Whatever run led here goes on: each connection whose end it notes was served, and notes stand on links of clients.
+        ensures runs { (first : Slots Connection) (base : Seen) → Runs first base (W.seen world.old) (S.desk shared.old).generations self.old.conns
+            → Runs first base (W.seen world.new) (S.desk shared.new).generations self.new.conns }
         ensures stops { (W.seen world.new).stops ≡ (W.seen world.old).stops }
         ensures grew { Grew (S.desk shared.old).generations (S.desk shared.new).generations }
-        ensures unstopped { NoneStopped (W.seen world.old) (W.seen world.new) }
+
+        // The clock was asked and links were used, but nothing was waited for, no stop was asked about and none was told.
+        ensures worked { Worked (W.seen world.old) (W.seen world.new) }
         ensures links { self.new.links ≡ self.old.links }
 
         // No more clients are served at a time than may be.
@@ -81,7 +85,7 @@ impl Worker {
         ensures accounts { (base : Seen) (from : Desk) → OnOk result (Accounts base (W.seen world.old) from (S.desk shared.old) self.old.conns
             → Accounts base (W.seen world.new) from (S.desk shared.new) self.new.conns) }
 
-        // No client is forgotten.
+        // No client is forgotten, no link is left open that isn't in use, and none was dialled but for a request.
         ensures met { (first : Slots Connection) (base : Seen) → OnOk result (Meets first base (W.seen world.old) self.old.conns
             → Meets first base (W.seen world.new) self.new.conns) }
         ensures done { OnOk result (TurnDone (W.lately world.new) self.new.conns self.new.links) }
@@ -108,11 +112,11 @@ impl Worker {
         shared: &mut S,
     ) -> Result<(), Memory>
         requires { Attends (W.seen world.old) (S.desk shared.old).generations self.old.conns }
-        ensures runs { (base : Seen) → Runs base (W.seen world.old) (S.desk shared.old).generations self.old.conns
-            → Runs base (W.seen world.new) (S.desk shared.new).generations self.new.conns }
+        ensures runs { (first : Slots Connection) (base : Seen) → Runs first base (W.seen world.old) (S.desk shared.old).generations self.old.conns
+            → Runs first base (W.seen world.new) (S.desk shared.new).generations self.new.conns }
         ensures stops { (W.seen world.new).stops ≡ (W.seen world.old).stops }
         ensures grew { Grew (S.desk shared.old).generations (S.desk shared.new).generations }
-        ensures unstopped { NoneStopped (W.seen world.old) (W.seen world.new) }
+        ensures worked { Worked (W.seen world.old) (W.seen world.new) }
         ensures links { self.new.links ≡ self.old.links }
         ensures fewer { slab_len self.new.conns ≤ slab_len self.old.conns }
         ensures turn { SameTurn (W.lately world.old) (W.lately world.new) }
@@ -144,11 +148,11 @@ impl Worker {
         shared: &mut S,
     ) -> Result<bool, Memory>
         requires { Attends (W.seen world.old) (S.desk shared.old).generations self.old.conns }
-        ensures runs { (base : Seen) → Runs base (W.seen world.old) (S.desk shared.old).generations self.old.conns
-            → Runs base (W.seen world.new) (S.desk shared.new).generations self.new.conns }
+        ensures runs { (first : Slots Connection) (base : Seen) → Runs first base (W.seen world.old) (S.desk shared.old).generations self.old.conns
+            → Runs first base (W.seen world.new) (S.desk shared.new).generations self.new.conns }
         ensures stops { (W.seen world.new).stops ≡ (W.seen world.old).stops }
         ensures grew { Grew (S.desk shared.old).generations (S.desk shared.new).generations }
-        ensures unstopped { NoneStopped (W.seen world.old) (W.seen world.new) }
+        ensures worked { Worked (W.seen world.old) (W.seen world.new) }
         ensures links { self.new.links ≡ self.old.links }
         ensures more { slab_len self.new.conns ≤ slab_len self.old.conns + 1 }
         ensures clocked { (W.lately world.new).clocked ≡ (W.lately world.old).clocked }
@@ -169,14 +173,14 @@ impl Worker {
     // Takes a client that comes, once there is room for it. Answers its key.
     fn accept<W: World>(&mut self, alloc: Global, world: &mut W) -> Result<Option<usize>, Memory>
         requires { Attended (W.seen world.old) self.old.conns }
-        ensures runs { (base : Seen) (g : List Plan) → Runs base (W.seen world.old) g self.old.conns
-            → Runs base (W.seen world.new) g self.new.conns }
+        ensures runs { (first : Slots Connection) (base : Seen) (g : List Plan) → Runs first base (W.seen world.old) g self.old.conns
+            → Runs first base (W.seen world.new) g self.new.conns }
         ensures accounts { (base : Seen) (from f : Desk) → OnOk result (Accounts base (W.seen world.old) from f self.old.conns
             → Accounts base (W.seen world.new) from f self.new.conns) }
         ensures met { (first : Slots Connection) (base : Seen) → OnOk result (Meets first base (W.seen world.old) self.old.conns
             → Meets first base (W.seen world.new) self.new.conns) }
         ensures stops { (W.seen world.new).stops ≡ (W.seen world.old).stops }
-        ensures unstopped { NoneStopped (W.seen world.old) (W.seen world.new) }
+        ensures worked { Worked (W.seen world.old) (W.seen world.new) }
         ensures links { self.new.links ≡ self.old.links }
         ensures more { slab_len self.new.conns ≤ slab_len self.old.conns + 1 }
         ensures clocked { (W.lately world.new).clocked ≡ (W.lately world.old).clocked }
@@ -197,7 +201,7 @@ impl Worker {
 
 // The connection of a client that came. Where it finds no memory the client's link is closed.
 fn begin<W: World>(alloc: Global, world: &mut W, client: &Arrival) -> Result<Conn, Memory>
-    ensures began { IfOk result (Began client.now) }
+    ensures began { IfOk result (JustCame client.now) }
     ensures same { OnOk result (W.seen world.new ≡ W.seen world.old) }
     ensures closed { OnErr result (CloseDid (W.seen world.old) client.now.link (W.seen world.new)) }
     ensures only { OnlyAt client.now.link (W.lately world.old) (W.lately world.new) }

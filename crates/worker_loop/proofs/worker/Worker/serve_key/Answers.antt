@@ -1,4 +1,4 @@
-use Rattle.worker_loop.proofs.Stops.{stopless_none, stopless_went, stopless_lost}
+use Rattle.worker_loop.proofs.Roundings.{worked_none, worked_went, worked_lost}
 use Rattle.std.proofs.Common.{rules, arith, sym, refl}
 use Rattle.slab.specs.Slab.{with_value}
 use Rattle.conn_service.proofs.Lists.{grew_none}
@@ -16,7 +16,7 @@ pub serve-requires-clause-tracked : goal.serve-requires-clause-tracked
 serve-requires-clause-tracked g c = (c.requires.0 c.args.key, (c.requires.1.tracks c.args.key c.in-Some.conn.now (sym c.in-Some.ensures.value)).stands)
 
 pub returns-in-Err-clause-runs : goal.returns-in-Err-clause-runs
-returns-in-Err-clause-runs g c = λ base.
+returns-in-Err-clause-runs g c = λ first base.
     step_lost _ _ c.args.key (sym c.in-Some.ensures.value) (strayed c.in-Err.ensures.lost) c.forget.ensures.gone
     (others_then c.args.self.now.conns (with_value c.args.self.now.conns c.args.key c.serve.new.conn) c.forget.new.self.conns c.args.key (placed_others c.args.self.now.conns c.args.key c.serve.new.conn) c.forget.ensures.others)
 
@@ -47,7 +47,7 @@ returns-then-is_finished-clause-fewer g c =
     omega (arith, less, same)
 
 pub returns-else-is_finished-clause-runs : goal.returns-else-is_finished-clause-runs
-returns-else-is_finished-clause-runs g c = λ base.
+returns-else-is_finished-clause-runs g c = λ first base.
     step_open _ _ c.args.key (sym c.in-Some.ensures.value) (moved c.in_default-serve.ensures.went)
     (c.if-is_finished.ensures.unended (search rules))
     (unfinished c.serve.new.conn c.if-is_finished.ensures.finished (search rules) c.in_default-serve.ensures.ready)
@@ -78,7 +78,7 @@ returns-else-is_finished-clause-accounts g c = λ base from.
     (placed_others c.args.self.now.conns c.args.key c.serve.new.conn)
 
 pub returns-then-is_finished-clause-runs : goal.returns-then-is_finished-clause-runs
-returns-then-is_finished-clause-runs g c = λ base.
+returns-then-is_finished-clause-runs g c = λ first base.
     step_over _ _ c.args.key (sym c.in-Some.ensures.value) (moved c.in_default-serve.ensures.went) (λ x. absurd x) (c.if-is_finished.ensures.served (search rules)) c.forget-then-is_finished.ensures.gone
     (others_then c.args.self.now.conns (with_value c.args.self.now.conns c.args.key c.serve.new.conn) c.forget-then-is_finished.new.self.conns c.args.key (placed_others c.args.self.now.conns c.args.key c.serve.new.conn) c.forget-then-is_finished.ensures.others)
 
@@ -104,13 +104,14 @@ returns-then-is_finished-clause-accounts g c = λ base from.
 
 pub returns-else-is_finished-clause-met : goal.returns-else-is_finished-clause-met
 returns-else-is_finished-clause-met g c = λ first base.
-    meets_open c.args.self.now.conns (with_value c.args.self.now.conns c.args.key c.serve.new.conn) c.args.key (sym c.in-Some.ensures.value) c.in_default-serve.ensures.went
+    meets_open c.args.self.now.conns (with_value c.args.self.now.conns c.args.key c.serve.new.conn) c.args.key c.requires.1 (sym c.in-Some.ensures.value) c.in_default-serve.ensures.went c.in_default-serve.ensures.leaves c.in_default-serve.ensures.told
     (placed c.args.self.now.conns c.args.key c.in-Some.conn.now c.serve.new.conn (sym c.in-Some.ensures.value))
     (placed_others c.args.self.now.conns c.args.key c.serve.new.conn)
 
 pub returns-then-is_finished-clause-met : goal.returns-then-is_finished-clause-met
 returns-then-is_finished-clause-met g c = λ first base.
-    meets_over c.args.self.now.conns c.forget-then-is_finished.new.self.conns c.args.key c.requires.1 (sym c.in-Some.ensures.value) c.in_default-serve.ensures.went (c.if-is_finished.ensures.finished.0 (search rules))
+    let finished = c.if-is_finished.ensures.finished.0 (search rules) in
+    meets_over c.args.self.now.conns c.forget-then-is_finished.new.self.conns c.args.key c.requires.1 (sym c.in-Some.ensures.value) c.in_default-serve.ensures.went (c.in_default-serve.ensures.closed finished) finished
     (others_then c.args.self.now.conns (with_value c.args.self.now.conns c.args.key c.serve.new.conn) c.forget-then-is_finished.new.self.conns c.args.key (placed_others c.args.self.now.conns c.args.key c.serve.new.conn) c.forget-then-is_finished.ensures.others)
 
 pub returns-in_default-clause-turn : goal.returns-in_default-clause-turn
@@ -122,14 +123,14 @@ returns-in_default-clause-settled g c = settled_vacant c.args.self.now.conns c.a
 pub returns-in_default-clause-grew : goal.returns-in_default-clause-grew
 returns-in_default-clause-grew g c = grew_none (g.S.Shared.desk c.args.shared.now).generations
 
-pub returns-in_default-clause-unstopped : goal.returns-in_default-clause-unstopped
-returns-in_default-clause-unstopped g c = stopless_none (g.W.World.seen c.args.world.now)
+pub returns-in_default-clause-worked : goal.returns-in_default-clause-worked
+returns-in_default-clause-worked g c = worked_none (g.W.World.seen c.args.world.now)
 
-pub returns-in-Err-clause-unstopped : goal.returns-in-Err-clause-unstopped
-returns-in-Err-clause-unstopped g c = stopless_lost (c.requires.1.tracks c.args.key c.in-Some.conn.now (sym c.in-Some.ensures.value)) (strayed c.in-Err.ensures.lost)
+pub returns-in-Err-clause-worked : goal.returns-in-Err-clause-worked
+returns-in-Err-clause-worked g c = worked_lost (c.requires.1.tracks c.args.key c.in-Some.conn.now (sym c.in-Some.ensures.value)) (strayed c.in-Err.ensures.lost)
 
-pub returns-else-is_finished-clause-unstopped : goal.returns-else-is_finished-clause-unstopped
-returns-else-is_finished-clause-unstopped g c = stopless_went (c.requires.1.tracks c.args.key c.in-Some.conn.now (sym c.in-Some.ensures.value)) (moved c.in_default-serve.ensures.went)
+pub returns-else-is_finished-clause-worked : goal.returns-else-is_finished-clause-worked
+returns-else-is_finished-clause-worked g c = worked_went (c.requires.1.tracks c.args.key c.in-Some.conn.now (sym c.in-Some.ensures.value)) (moved c.in_default-serve.ensures.went)
 
-pub returns-then-is_finished-clause-unstopped : goal.returns-then-is_finished-clause-unstopped
-returns-then-is_finished-clause-unstopped g c = stopless_went (c.requires.1.tracks c.args.key c.in-Some.conn.now (sym c.in-Some.ensures.value)) (moved c.in_default-serve.ensures.went)
+pub returns-then-is_finished-clause-worked : goal.returns-then-is_finished-clause-worked
+returns-then-is_finished-clause-worked g c = worked_went (c.requires.1.tracks c.args.key c.in-Some.conn.now (sym c.in-Some.ensures.value)) (moved c.in_default-serve.ensures.went)

@@ -1,19 +1,19 @@
-use Rattle.conn_service.proofs.Farewells.{tells_none, tells_then}
+use Rattle.worker_loop.proofs.Roundings.{parted_none, parted_then}
 use Rattle.std.proofs.Common.{arith, refl}
 use Rattle.worker_loop.proofs.Servings.{unasked_then, unasked_none, gone_next, gone_past, gone_all, past_slots, ends_none, ends_then, within_kept, above_next}
 use Rattle.worker_loop.proofs.Accountings.{on_ok}
 use Rattle.worker_loop.proofs.worker.Worker.stop_all.Goals as goal
 
 pub loop-key-init : goal.loop-key-init
-loop-key-init g c = (c.requires, λ base gens why r. (r, why), unasked_none (g.W.World.seen c.args.world.now), λ k lt. absurd (omega arith), λ k le. past_slots c.args.self.now.conns.slots k (omega (arith, c.capacity-end.ensures.slots, le)), λ base from to all a. a, λ k le. refl, ends_none (g.W.World.seen c.args.world.now) c.args.self.now.conns, λ first base all m. m, tells_none (g.W.World.seen c.args.world.now))
+loop-key-init g c = (c.requires, λ first base gens why r. (r, why), unasked_none (g.W.World.seen c.args.world.now), λ k lt. absurd (omega arith), λ k le. past_slots c.args.self.now.conns.slots k (omega (arith, c.capacity-end.ensures.slots, le)), λ base from to all a. a, λ k le. refl, ends_none (g.W.World.seen c.args.world.now) c.args.self.now.conns, λ first base all m. m, parted_none (g.W.World.seen c.args.world.now))
 
 pub loop-key-preserved : goal.loop-key-preserved
 loop-key-preserved g c =
     let i = c.loop-key.invariant.0 in
     let e = c.stop_key-told.ensures in
-    let next = e.runs i.0 i.1 i.2 i.3 in (
-      (i.0, i.1, next.1, next.0),
-      λ base gens why r. let was = c.loop-key.invariant.1 base gens why r in e.runs base gens was.1 was.0,
+    let next = e.runs i.0 i.1 i.2 i.3 i.4 in (
+      (i.0, i.1, i.2, next.1, next.0),
+      λ first base gens why r. let was = c.loop-key.invariant.1 first base gens why r in e.runs first base gens was.1 was.0,
       unasked_then (g.W.World.seen c.args.world.now) (g.W.World.seen c.loop-key.world) (g.W.World.seen c.stop_key-told.new.world) c.loop-key.invariant.2 e.unasked,
       gone_next c.loop-key.self.conns c.stop_key-told.new.self.conns c.loop-key.key c.loop-key.invariant.3 e.gone e.others,
       gone_past c.loop-key.self.conns c.stop_key-told.new.self.conns c.loop-key.key c.capacity-end.result c.loop-key-test.true c.loop-key.invariant.4 e.others,
@@ -21,11 +21,11 @@ loop-key-preserved g c =
       above_next c.args.self.now.conns c.loop-key.self.conns c.stop_key-told.new.self.conns c.loop-key.key c.loop-key.invariant.6 e.others,
       ends_then (g.W.World.seen c.args.world.now) (g.W.World.seen c.loop-key.world) (g.W.World.seen c.stop_key-told.new.world) c.args.self.now.conns c.loop-key.self.conns (within_kept c.args.self.now.conns c.loop-key.self.conns c.loop-key.key c.loop-key.invariant.3 c.loop-key.invariant.6) c.loop-key.invariant.7 e.ends,
       λ first base all m. on_ok c.stop_key-told.result (c.are_told-all.ensures.told all) (e.met first base) (c.loop-key.invariant.8 first base (c.are_told-all.ensures.all all) m),
-      tells_then (g.W.World.seen c.args.world.now) (g.W.World.seen c.loop-key.world) (g.W.World.seen c.stop_key-told.new.world) c.loop-key.invariant.9 e.tells,
+      parted_then (g.W.World.seen c.args.world.now) (g.W.World.seen c.loop-key.world) (g.W.World.seen c.stop_key-told.new.world) c.loop-key.invariant.9 e.parted,
     )
 
 pub returns-clause-runs : goal.returns-clause-runs
-returns-clause-runs g c = λ base gens why r. (c.loop-key.invariant.1 base gens why r).0
+returns-clause-runs g c = λ first base gens why r. (c.loop-key.invariant.1 first base gens why r).0
 
 pub returns-clause-ended : goal.returns-clause-ended
 returns-clause-ended g c = gone_all c.loop-key.self.conns c.capacity-end.result (λ k lt. c.loop-key.invariant.3 k (omega (arith, lt, c.loop-key-test.false))) c.loop-key.invariant.4
@@ -36,5 +36,5 @@ returns-clause-met g c = c.loop-key.invariant.8
 pub returns-clause-accounts : goal.returns-clause-accounts
 returns-clause-accounts g c = c.loop-key.invariant.5
 
-pub returns-clause-tells : goal.returns-clause-tells
-returns-clause-tells g c = c.loop-key.invariant.9
+pub returns-clause-parted : goal.returns-clause-parted
+returns-clause-parted g c = c.loop-key.invariant.9

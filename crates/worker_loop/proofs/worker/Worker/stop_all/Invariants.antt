@@ -1,4 +1,4 @@
-use Rattle.conn_service.specs.Farewell.{OnlyTells}
+use Rattle.worker_loop.specs.Rounds.{Parted}
 use Rattle.std.proofs.Common.{◌≡◌, ◌<◌, ◌≤◌, ℕ, List, None, true}
 use Rattle.slab.specs.Slab.{Slab, get}
 use Rattle.conn_machine.specs.declared.conn.Conn.{Conn}
@@ -15,7 +15,7 @@ use Rattle.worker_loop.proofs.worker.Worker.stop_all.Given as goal
 abbrev pub invariant-loop-key : goal.invariant-loop-key
 invariant-loop-key g l =
     IsStopping (g.W.World.seen l.world) l.self.conns
-    × ((base : Seen) (gens : List Plan) → Stopping base (g.W.World.seen l.fn.world) → Runs base (g.W.World.seen l.fn.world) gens l.fn.self.conns → Runs base (g.W.World.seen l.world) gens l.self.conns × Stopping base (g.W.World.seen l.world))
+    × ((first : Slab Conn) (base : Seen) (gens : List Plan) → Stopping base (g.W.World.seen l.fn.world) → Runs first base (g.W.World.seen l.fn.world) gens l.fn.self.conns → Runs first base (g.W.World.seen l.world) gens l.self.conns × Stopping base (g.W.World.seen l.world))
     × Unasked (g.W.World.seen l.fn.world) (g.W.World.seen l.world)
     × ((k : ℕ) → k < l.key → get l.self.conns k ≡ None)
     × ((k : ℕ) → l.end ≤ k → get l.self.conns k ≡ None)
@@ -23,4 +23,4 @@ invariant-loop-key g l =
     × ((k : ℕ) → l.key ≤ k → get l.self.conns k ≡ get l.fn.self.conns k)
     × EndsOnly (g.W.World.seen l.fn.world) (g.W.World.seen l.world) l.fn.self.conns
     × ((first : Slab Conn) (base : Seen) → l.all ≡ true → Meets first base (g.W.World.seen l.fn.world) l.fn.self.conns → Meets first base (g.W.World.seen l.world) l.self.conns)
-    × OnlyTells (g.W.World.seen l.fn.world) (g.W.World.seen l.world)
+    × Parted (g.W.World.seen l.fn.world) (g.W.World.seen l.world)

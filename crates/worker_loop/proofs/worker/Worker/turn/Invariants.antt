@@ -6,13 +6,14 @@ use Rattle.link_world.specs.Seen.{Seen}
 use Rattle.desk.specs.Desks.{Desk, Grew}
 use Rattle.worker_loop.specs.Accounts.{Accounts}
 use Rattle.worker_loop.specs.Runs.{Runs}
-use Rattle.worker_loop.specs.Settled.{AllSettled, NoneStopped}
+use Rattle.worker_loop.specs.Rounds.{Worked}
+use Rattle.worker_loop.specs.Settled.{AllSettled}
 use Rattle.worker_loop.proofs.worker.Worker.turn.Given as goal
 
 abbrev pub invariant-loop : goal.invariant-loop
 invariant-loop g l =
     (goal.iterator-loop g).can_next l.iterator' × (goal.iterator-loop g).is_finite l.iterator'
-    × ((base : Seen) → Runs base (g.W.World.seen l.fn.world) (g.S.Shared.desk l.fn.shared).generations l.fn.self.conns → Runs base (g.W.World.seen l.world) (g.S.Shared.desk l.shared).generations l.self.conns)
+    × ((first : Slab Conn) (base : Seen) → Runs first base (g.W.World.seen l.fn.world) (g.S.Shared.desk l.fn.shared).generations l.fn.self.conns → Runs first base (g.W.World.seen l.world) (g.S.Shared.desk l.shared).generations l.self.conns)
     × ((g.W.World.lately l.world).clocked ≡ true)
     × AllSettled (g.W.World.lately l.world) l.self.conns
     × ((g.W.World.seen l.world).stops ≡ (g.W.World.seen l.fn.world).stops)
@@ -21,4 +22,4 @@ invariant-loop g l =
     × (slab_len l.fn.self.conns ≤ l.fn.self.links → slab_len l.self.conns ≤ l.self.links)
     × Grew (g.S.Shared.desk l.fn.shared).generations (g.S.Shared.desk l.shared).generations
     × ((first : Slab Conn) (base : Seen) → Meets first base (g.W.World.seen l.fn.world) l.fn.self.conns → Meets first base (g.W.World.seen l.world) l.self.conns)
-    × NoneStopped (g.W.World.seen l.fn.world) (g.W.World.seen l.world)
+    × Worked (g.W.World.seen l.fn.world) (g.W.World.seen l.world)
