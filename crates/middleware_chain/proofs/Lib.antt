@@ -1,0 +1,11 @@
+pub mod Folded
+pub mod Guarded
+pub mod Linked
+pub mod Listing
+pub mod Named
+pub mod Parted
+pub mod Safe
+pub mod Setting
+pub mod Standing
+pub mod Taken
+pub mod Texts

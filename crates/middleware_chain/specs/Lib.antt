@@ -1,0 +1,10 @@
+pub mod Built
+pub mod Chained
+pub mod Counts
+pub mod Flattened
+pub mod Folds
+pub mod Lines
+pub mod Names
+pub mod Parts
+pub mod Stages
+pub mod Written
