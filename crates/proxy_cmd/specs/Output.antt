@@ -35,16 +35,16 @@ IsReplay words = IsCommand words Replay
 abbrev pub script_limit : ℕ
 script_limit = 4194304
 
--- the answer of `replay` to what is left of the script's source
-pub data ReplayOutput (input : Option (List ℕ)) (status : ℕ) (text : List ℕ) : Type 0 where
-  long_script : IsOver input script_limit → status ≡ 8 → text ≡ line (codes "too long") → ReplayOutput input status text
-  replayed : (bytes : List ℕ) → WasRead input script_limit bytes → Replayed bytes status text → ReplayOutput input status text
+-- The answer of `replay` to what is left of the script's source. `old` and `new` are what the shop counted before and after.
+pub data ReplayOutput (old new : ℕ) (input : Option (List ℕ)) (status : ℕ) (text : List ℕ) : Type 0 where
+  long_script : IsOver input script_limit → status ≡ 8 → text ≡ line (codes "too long") → ReplayOutput old new input status text
+  replayed : (bytes : List ℕ) → WasRead input script_limit bytes → Replayed old new bytes status text → ReplayOutput old new input status text
 
 -- the answer to the words: the usage, or the command's. `old` and `new` are what the shop counted before and after.
 pub data Output (words : List (List ℕ)) (old new : ℕ) (file input : Option (List ℕ)) (status : ℕ) (text : List ℕ) : Type 0 where
   usage : ((plan : RoutePlan) → ¬ (IsRoute words plan)) → ¬ (IsReplay words) → status ≡ 2 → text ≡ usage_text → Output words old new file input status text
   route : (plan : RoutePlan) → IsRoute words plan → RouteOutput plan.entry plan.peer old new file input status text → Output words old new file input status text
-  replay : IsReplay words → ReplayOutput input status text → Output words old new file input status text
+  replay : IsReplay words → ReplayOutput old new input status text → Output words old new file input status text
 
 -- why there is no answer: the file's source failed; or, under a file that is fine, the input's did; or the script's did
 pub data Unread (words : List (List ℕ)) (file : Option (List ℕ)) (file_failed input_failed : Type 0) : Type 0 where

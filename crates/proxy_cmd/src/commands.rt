@@ -114,7 +114,7 @@ fn answer_script<Q: Source, S: PatternShop>(
     input: &mut Q,
     shop: &mut S,
 ) -> Result<Answer, Stop>
-    ensures told { IfOk result (λ a. ReplayOutput (Q.left input.old) a.status a.text.items) }
+    ensures told { IfOk result (λ a. ReplayOutput (S.refusals shop.old) (S.refusals shop.new) (Q.left input.old) a.status a.text.items) }
     ensures end { IfOk result (λ a. a.status ≡ 0 → Q.ended input.new ≡ true) }
     ensures apart { IfOk result (λ a. (a.status ≢ 5) × (a.status ≢ 6)) }
     ensures stop { IfErr result (StopsReplay (Rose (Q.faults input.old) (Q.faults input.new))) }

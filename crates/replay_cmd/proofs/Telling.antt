@@ -28,11 +28,11 @@ pub refuses_by : (e : Event) (s t : System) (r : Refused) (f : Failure) → Answ
 refuses_by e s t r (failure.Refused w) a is = (r, t, a, is)
 refuses_by e s t r failure.Memory a is = tt
 
-pub waits_by : (r : Result (Unit {0}) Failure) (issue : Arc Generation Global) (block : List ℕ) (s t : System) → IsGenerationOf (length (plans_of s.clients.timeline)) block (arc_value issue)
-    → MatchResult r (λ done. Accepts (event.Config issue) s t) (Refuses (event.Config issue) s) → MatchResult r (λ done. Configured block s t) (FailsBlock s block)
-waits_by (Ok u) issue block s t g m = inr (issue, g, m)
-waits_by (Err (failure.Refused w)) issue block s t g m = inr (issue, m)
-waits_by (Err failure.Memory) issue block s t g m = tt
+pub waits_by : (from to : ℕ) (r : Result (Unit {0}) Failure) (issue : Arc Generation Global) (block : List ℕ) (s t : System) → IsGenerationOf from to (length (plans_of s.clients.timeline)) block (arc_value issue)
+    → MatchResult r (λ done. Accepts (event.Config issue) s t) (Refuses (event.Config issue) s) → MatchResult r (λ done. Configured from to block s t) (FailsBlock s block)
+waits_by from to (Ok u) issue block s t g m = inr (issue, g, m)
+waits_by from to (Err (failure.Refused w)) issue block s t g m = inr (issue, m)
+waits_by from to (Err failure.Memory) issue block s t g m = tt
 
 pub block_failed : (run : Run) (text block more : List ℕ) (f : Failure) → IsBlock text block more → FailsBlock run.system block f → FailsConfig run text f
 block_failed run text block more (failure.Refused w) is fails = inr (block, more, is, fails)
@@ -63,9 +63,9 @@ cut_shorter text line rest some (fed all is) =
 cut_shorter text line rest some (last all is none_) = let e : length rest ≡ 0 = ap length none_ in let h : 0 < length text = has_length text some in omega arith
 
 -- a configuration that follows its line
-pub configures_by : (old new : Run) (text l behind : List ℕ) (r : Result (Bor (List ℕ)) Failure) → IsCut text l behind → l ≢ [] → IsLine l line.ConfigFile
-    → MatchResult r (λ more. HasConfigured old behind new more.now) (FailsConfig old behind)
-    → MatchResult r (λ more. Step old text new more.now) (FailsStep old text)
-configures_by old new text l behind (Ok more) cut some is h = configured l behind cut is h
-configures_by old new text l behind (Err (failure.Refused w)) cut some is h = (l, behind, cut, some, inr (inr (is, h)))
-configures_by old new text l behind (Err failure.Memory) cut some is h = tt
+pub configures_by : (from to : ℕ) (old new : Run) (text l behind : List ℕ) (r : Result (Bor (List ℕ)) Failure) → IsCut text l behind → l ≢ [] → IsLine l line.ConfigFile
+    → MatchResult r (λ more. HasConfigured from to old behind new more.now) (FailsConfig old behind)
+    → MatchResult r (λ more. Step from to old text new more.now) (FailsStep old text)
+configures_by from to old new text l behind (Ok more) cut some is h = configured l behind cut is h
+configures_by from to old new text l behind (Err (failure.Refused w)) cut some is h = (l, behind, cut, some, inr (inr (is, h)))
+configures_by from to old new text l behind (Err failure.Memory) cut some is h = tt

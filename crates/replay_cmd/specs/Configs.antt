@@ -6,6 +6,7 @@ use Rattle.file_provider.specs.Files.{IsFileConfig}
 use Rattle.file_provider.specs.declared.config.FileFault.{FileFault}
 use Rattle.file_provider.specs.declared.config.FileFault.TheVariants as file
 use Rattle.provider_merge.specs.Merging.{DeclaresNothing, IsFileAlone}
+use Rattle.router_table.specs.Rows.{Refuses}
 use Rattle.service_graph.specs.Only.{IsFirstForm}
 use Rattle.generation.specs.Built.{IsOf}
 use Rattle.generation.specs.declared.generation.Generation.{Generation}
@@ -18,8 +19,8 @@ use Rattle.replay_cmd.specs.declared.why.Why.TheVariants as why
 abbrev pub DeclaresNone : List ℕ → Type 0
 DeclaresNone text = (config : Config) × IsFileConfig text (Ok config) × DeclaresNothing config
 
--- the text is this configuration under this number
-pub record IsGenerationOf (number : ℕ) (text : List ℕ) (g : Generation) : Type 0 where
+-- The text is this configuration under this number. The shop counted `from` refusals before it was built, and `to` after.
+pub record IsGenerationOf (from to number : ℕ) (text : List ℕ) (g : Generation) : Type 0 where
   pub config : Config
   pub is_config : IsFileConfig text (Ok config)
   pub some : ¬ (DeclaresNothing config)
@@ -27,6 +28,8 @@ pub record IsGenerationOf (number : ℕ) (text : List ℕ) (g : Generation) : Ty
   pub is_merged : IsFileAlone config merged
   pub form : IsFirstForm merged
   pub is_of : IsOf number merged g
+  -- no more routers are disabled for a pattern that is too big than it counted in between
+  pub refused : Refuses from to g.table.rows
 
 -- it has a fault
 abbrev pub IsFault : FileFault → Type 0

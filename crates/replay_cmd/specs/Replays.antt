@@ -1,5 +1,5 @@
 -- A script, as it is told to a system.
-use Rattle.std.specs.Prelude.{◌≡◌, ◌≢◌, ◌⊎◌, ℕ, ◌+◌, ◌-◌, ◌==◌, Bool, true, false, List, [], ◌∷◌, ◌++◌, length, count_by, Option, Some, None, Result, Ok, Err}
+use Rattle.std.specs.Prelude.{◌≡◌, ◌≢◌, ◌⊎◌, ℕ, ◌≤◌, ◌+◌, ◌-◌, ◌==◌, Bool, true, false, List, [], ◌∷◌, ◌++◌, length, count_by, Option, Some, None, Result, Ok, Err}
 use Rattle.std.specs.declared.sync.Arc.{Arc}
 use Rattle.std.specs.declared.alloc.Global.{Global}
 use Rattle.std.specs.Arc.{arc_value}
@@ -90,10 +90,11 @@ abbrev pub FailsLine : System → Line → Failure → Type 0
 FailsLine s l (failure.Refused w) = IsUnmeant l w ⊎ ((e : Event) × Means s l e × Refuses e s (failure.Refused w))
 FailsLine s l failure.Memory = Unit {0}
 
--- the block is the next configuration, or one that declares nothing and changes nothing
-abbrev pub Configured : List ℕ → System → System → Type 0
-Configured block s t = (DeclaresNone block × (t ≡ s))
-    ⊎ ((issue : Arc Generation Global) × IsGenerationOf (length (plans_of s.clients.timeline)) block (arc_value issue) × Accepts (event.Config issue) s t)
+-- The block is the next configuration, or one that declares nothing and changes nothing. The shop counted `from` refusals
+-- before it, and `to` after.
+abbrev pub Configured : (from to : ℕ) → List ℕ → System → System → Type 0
+Configured from to block s t = (DeclaresNone block × (t ≡ s) × (to ≡ from))
+    ⊎ ((issue : Arc Generation Global) × IsGenerationOf from to (length (plans_of s.clients.timeline)) block (arc_value issue) × Accepts (event.Config issue) s t)
 
 -- why a block is refused: it is no configuration or isn't served, or by the system
 abbrev pub FailsBlock : System → List ℕ → Failure → Type 0
@@ -101,11 +102,11 @@ FailsBlock s block (failure.Refused w) = IsUnserved block w ⊎ ((issue : Arc Ge
 FailsBlock s block failure.Memory = Unit {0}
 
 -- the lines behind bars are the first configuration of the script
-pub record HasConfigured (old : Run) (text : List ℕ) (new : Run) (more : List ℕ) : Type 0 where
+pub record HasConfigured (from to : ℕ) (old : Run) (text : List ℕ) (new : Run) (more : List ℕ) : Type 0 where
   pub unconfigured : old.configured ≡ false
   pub block : List ℕ
   pub is_block : IsBlock text block more
-  pub configures : Configured block old.system new.system
+  pub configures : Configured from to block old.system new.system
   pub configured : new.configured ≡ true
 
 -- why they are refused: a second configuration, or this block
@@ -114,12 +115,13 @@ FailsConfig run text (failure.Refused w) =
     ((run.configured ≡ true) × (w ≡ why.Later)) ⊎ ((block : List ℕ) × (more : List ℕ) × IsBlock text block more × FailsBlock run.system block (failure.Refused w))
 FailsConfig run text failure.Memory = Unit {0}
 
--- the next line, or the next configuration with its lines, is told
-pub data Step (old : Run) (text : List ℕ) (new : Run) (more : List ℕ) : Type 0 where
-  blank : (l : List ℕ) → IsCut text l more → l ≡ [] → new ≡ old → Step old text new more
+-- The next line, or the next configuration with its lines, is told. The shop counted `from` refusals before it, and `to`
+-- after.
+pub data Step (from to : ℕ) (old : Run) (text : List ℕ) (new : Run) (more : List ℕ) : Type 0 where
+  blank : (l : List ℕ) → IsCut text l more → l ≡ [] → new ≡ old → to ≡ from → Step from to old text new more
   said : (l : List ℕ) (read : Line) (e : Event) → IsCut text l more → IsLine l read → Means old.system read e → Accepts e old.system new.system
-      → new.configured ≡ old.configured → Step old text new more
-  configured : (l behind : List ℕ) → IsCut text l behind → IsLine l line.ConfigFile → HasConfigured old behind new more → Step old text new more
+      → new.configured ≡ old.configured → to ≡ from → Step from to old text new more
+  configured : (l behind : List ℕ) → IsCut text l behind → IsLine l line.ConfigFile → HasConfigured from to old behind new more → Step from to old text new more
 
 -- why the next line is refused
 abbrev pub FailsStep : Run → List ℕ → Failure → Type 0
@@ -129,10 +131,12 @@ FailsStep run text (failure.Refused w) = (l more : List ℕ) × IsCut text l mor
     ⊎ (IsLine l line.ConfigFile × FailsConfig run more (failure.Refused w))))
 FailsStep run text failure.Memory = Unit {0}
 
--- line after line is told, and this is left of the text
-pub data Replays (start : Run) (text : List ℕ) : Run → List ℕ → Type 0 where
-  begun : Replays start text start text
-  next : (run : Run) (rest : List ℕ) (after : Run) (more : List ℕ) → Replays start text run rest → Step run rest after more → Replays start text after more
+-- Line after line is told, and this is left of the text. The shop, which counted `from` refusals at the start, counts so many
+-- now.
+pub data Replays (start : Run) (text : List ℕ) (from : ℕ) : Run → List ℕ → ℕ → Type 0 where
+  begun : Replays start text from start text from
+  next : (run : Run) (rest : List ℕ) (told : ℕ) (after : Run) (more : List ℕ) (to : ℕ) → Replays start text from run rest told → Step told to run rest after more
+      → Replays start text from after more to
 
 -- a system before its first event, under a configuration without routers
 pub record IsStart (run : Run) : Type 0 where
@@ -148,8 +152,10 @@ feeds text = count_by (λ b. b == 10) text
 abbrev pub number_of : List ℕ → List ℕ → ℕ
 number_of script rest = (feeds script - feeds rest) + 1
 
--- what is answered to a script: what the system has to show, or the first line that is refused
-pub data Replayed (script : List ℕ) (status : ℕ) (text : List ℕ) : Type 0 where
-  told : (start run : Run) → IsStart start → Replays start script run [] → status ≡ 0 → text ≡ output_text run.system → Replayed script status text
-  refused : (start run : Run) (rest : List ℕ) (w : Why) → IsStart start → Replays start script run rest → FailsStep run rest (failure.Refused w)
-      → status ≡ 4 → text ≡ refusal_text (number_of script rest) w → Replayed script status text
+-- What is answered to a script: what the system has to show, or the first line that is refused. The shop counted `from`
+-- refusals before, and `to` after.
+pub data Replayed (from to : ℕ) (script : List ℕ) (status : ℕ) (text : List ℕ) : Type 0 where
+  told : (start run : Run) → IsStart start → Replays start script from run [] to → status ≡ 0 → text ≡ output_text run.system
+      → Replayed from to script status text
+  refused : (start run : Run) (rest : List ℕ) (counted : ℕ) (w : Why) → IsStart start → Replays start script from run rest counted → counted ≤ to
+      → FailsStep run rest (failure.Refused w) → status ≡ 4 → text ≡ refusal_text (number_of script rest) w → Replayed from to script status text

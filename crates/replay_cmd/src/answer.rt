@@ -17,7 +17,7 @@ use std::alloc::{AllocError, Global};
 /// | 0 | `published <n>`, what each link took, and the notes in order |
 /// | 4 | `script <line> <why>`: the first line that is refused |
 pub fn replay<S: PatternShop>(alloc: Global, script: &[u8], shop: &mut S) -> Result<Answer, Memory>
-    ensures told { IfOk result (λ a. Replayed script.now a.status a.text.items) }
+    ensures told { IfOk result (λ a. Replayed (S.refusals shop.old) (S.refusals shop.new) script.now a.status a.text.items) }
     ensures apart { IfOk result (λ a. (a.status ≢ 5) × (a.status ≢ 6)) }
 {
     let mut run = Run::new(alloc)?;

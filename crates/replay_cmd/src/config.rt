@@ -1,5 +1,5 @@
 //! The configuration of a script.
-ghost use Rattle.std.specs.Prelude.{◌≡◌, Ok, MatchResult, MatchOption};
+ghost use Rattle.std.specs.Prelude.{◌≡◌, ◌≤◌, Ok, MatchResult, MatchOption};
 ghost use Rattle.file_provider.specs.Files.{IsFileConfig};
 ghost use Rattle.replay_cmd.specs.Configs.{DeclaresNone, IsGenerationOf, FailsRead};
 
@@ -18,9 +18,11 @@ pub(crate) fn read_generation<S: PatternShop>(
     text: &[u8],
     shop: &mut S,
 ) -> Result<Option<Generation>, Failure>
-    ensures { MatchResult result
-        (λ o. MatchOption o (DeclaresNone text.now) (IsGenerationOf number text.now))
+    ensures means { MatchResult result
+        (λ o. MatchOption o (DeclaresNone text.now × (S.refusals shop.new ≡ S.refusals shop.old))
+            (IsGenerationOf (S.refusals shop.old) (S.refusals shop.new) number text.now))
         (FailsRead text.now) }
+    ensures later { S.refusals shop.old ≤ S.refusals shop.new }
 {
     match read_file_config(alloc, text) {
         Ok(config) => generation_of(alloc, number, text, config, shop),
@@ -39,9 +41,11 @@ fn generation_of<S: PatternShop>(
     shop: &mut S,
 ) -> Result<Option<Generation>, Failure>
     requires { IsFileConfig text.now (Ok config) }
-    ensures { MatchResult result
-        (λ o. MatchOption o (DeclaresNone text.now) (IsGenerationOf number text.now))
+    ensures means { MatchResult result
+        (λ o. MatchOption o (DeclaresNone text.now × (S.refusals shop.new ≡ S.refusals shop.old))
+            (IsGenerationOf (S.refusals shop.old) (S.refusals shop.new) number text.now))
         (FailsRead text.now) }
+    ensures later { S.refusals shop.old ≤ S.refusals shop.new }
 {
     let _text = text;
     if declares_nothing(&config) {

@@ -46,8 +46,10 @@ impl Run {
         shop: &mut S,
     ) -> Result<&'a [u8], Failure>
         requires { text.now ≢ [] }
-        ensures step { MatchResult result (λ more. Step self.old text.now self.new more.now) (FailsStep self.old text.now) }
+        ensures step { MatchResult result
+            (λ more. Step (S.refusals shop.old) (S.refusals shop.new) self.old text.now self.new more.now) (FailsStep self.old text.now) }
         ensures shorter { IfOk result (λ more. length more.now < length text.now) }
+        ensures later { S.refusals shop.old ≤ S.refusals shop.new }
     {
         let (line, rest) = cut_line(text);
         if is_blank(line) {
@@ -70,8 +72,10 @@ impl Run {
         text: &'a [u8],
         shop: &mut S,
     ) -> Result<&'a [u8], Failure>
-        ensures told { MatchResult result (λ more. HasConfigured self.old text.now self.new more.now) (FailsConfig self.old text.now) }
+        ensures told { MatchResult result
+            (λ more. HasConfigured (S.refusals shop.old) (S.refusals shop.new) self.old text.now self.new more.now) (FailsConfig self.old text.now) }
         ensures shorter { IfOk result (λ more. length more.now ≤ length text.now) }
+        ensures later { S.refusals shop.old ≤ S.refusals shop.new }
     {
         if self.configured {
             return Err(Failure::Refused(Why::Later));
@@ -90,7 +94,9 @@ impl Run {
         shop: &mut S,
     ) -> Result<(), Failure>
         ensures configured { self.new.configured ≡ self.old.configured }
-        ensures told { MatchResult result (λ done. Configured block.now self.old.system self.new.system) (FailsBlock self.old.system block.now) }
+        ensures told { MatchResult result
+            (λ done. Configured (S.refusals shop.old) (S.refusals shop.new) block.now self.old.system self.new.system) (FailsBlock self.old.system block.now) }
+        ensures later { S.refusals shop.old ≤ S.refusals shop.new }
     {
         match read_generation(alloc, self.system.published(), block, shop)? {
             Some(generation) => {
