@@ -9,4 +9,4 @@ mod route;
 mod routes;
 
 pub use answer::Stop;
-pub use route::answer_route;
+pub use route::{answer_route, fault_answer};

@@ -53,8 +53,8 @@ pub fn answer_route<C: Source, Q: Source, S: PatternShop>(
     }
 }
 
-// The answer to a file that is no configuration.
-fn fault_answer(alloc: Global, fault: &FileFault) -> Result<Answer, Stop>
+/// The answer to a file that is no configuration.
+pub fn fault_answer(alloc: Global, fault: &FileFault) -> Result<Answer, Stop>
     ensures told { IfOk result (λ a. (a.status ≡ 3) × (a.text.items ≡ line (file_fault_text fault.now)) × (fault.now ≢ NoMemory)) }
     ensures stop { IfErr result (λ stop. stop ≡ Stop.Memory) }
 {

@@ -16,7 +16,7 @@ returns-in-Ok-clause-stop g c =
 
 pub returns-in-Err-File-clause-told : goal.returns-in-Err-File-clause-told
 returns-in-Err-File-clause-told g c =
-    let (bytes, was, ended, means) = rw c.in-Err-File.field-0-is at c.in-Err-File.ensures in
+    let (other, bytes, was, ended, means) = rw c.in-Err-File.field-0-is at c.in-Err-File.ensures in
     let said = rw c.in-Err-File.field-0-is at c.fault_answer.ensures.told in
     IfOk-weaker c.fault_answer.result _ _ (λ a h. refused_file bytes c.in-Err-File.fault was means h.2 h.0 h.1) said
 

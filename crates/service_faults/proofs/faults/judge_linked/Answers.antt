@@ -1,8 +1,7 @@
-use Rattle.std.proofs.Common.{ℕ, ◌<◌, ◌∙◌, sym, subst, ap, length, map, is_some, List}
+use Rattle.std.proofs.Common.{◌∙◌, sym, subst, ap, length, List}
 use Rattle.reference_graph.specs.Links.{Links, AreWithin}
-use Rattle.reference_graph.specs.Heights.{Heights, AreHeights, IsJudged}
-use Rattle.service_faults.specs.Faults.{State, faults_from}
-use Rattle.service_faults.specs.Blocked.{AreBlocked, judgement}
+use Rattle.service_faults.specs.Faults.{State}
+use Rattle.service_faults.specs.Blocked.{AreBlocked}
 use Rattle.service_faults.proofs.JudgingLemmas.{links_within, links_long, is_judged_whole}
 use Rattle.service_faults.proofs.faults.judge_linked.Goals as goal
 

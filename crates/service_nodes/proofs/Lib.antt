@@ -1,0 +1,5 @@
+pub mod Making
+pub mod Numbered
+pub mod Limits
+pub mod Whole
+pub mod Names

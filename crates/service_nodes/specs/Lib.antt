@@ -1,0 +1,4 @@
+pub mod Nodes
+pub mod Lawful
+pub mod Ready
+pub mod Graphs
