@@ -80,9 +80,7 @@ impl<const LAST: u64> Shared for FinalDesk<LAST> {
         ensures exact { Draws one_server mask ((seat_at (desk_of self.old.desk) number).count node) result }
     {
         let _ = rt;
-        self.desk
-            .seats
-            .draw(&self.desk.server, number, node, mask)
+        self.desk.seats.draw(&self.desk.server, number, node, mask)
     }
 
     fn retire(&mut self, number: u64) {

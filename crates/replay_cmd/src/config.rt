@@ -20,7 +20,7 @@ pub(crate) fn read_generation<S: PatternShop>(
 ) -> Result<Option<Generation>, Failure>
     ensures means { MatchResult result
         (λ o. MatchOption o (DeclaresNone text.now × (S.refusals shop.new ≡ S.refusals shop.old))
-            (IsGenerationOf (S.refusals shop.old) (S.refusals shop.new) number text.now))
+        (IsGenerationOf (S.refusals shop.old) (S.refusals shop.new) number text.now))
         (FailsRead text.now) }
     ensures later { S.refusals shop.old ≤ S.refusals shop.new }
 {
@@ -43,7 +43,7 @@ fn generation_of<S: PatternShop>(
     requires { IsFileConfig text.now (Ok config) }
     ensures means { MatchResult result
         (λ o. MatchOption o (DeclaresNone text.now × (S.refusals shop.new ≡ S.refusals shop.old))
-            (IsGenerationOf (S.refusals shop.old) (S.refusals shop.new) number text.now))
+        (IsGenerationOf (S.refusals shop.old) (S.refusals shop.new) number text.now))
         (FailsRead text.now) }
     ensures later { S.refusals shop.old ≤ S.refusals shop.new }
 {

@@ -80,12 +80,7 @@ fn idle(status: u8) -> Outcome
     }
 }
 
-fn run_begun<R: Wait, W: World>(
-    rt: &R,
-    alloc: Global,
-    begun: Beginning,
-    world: &mut W,
-) -> Outcome
+fn run_begun<R: Wait, W: World>(rt: &R, alloc: Global, begun: Beginning, world: &mut W) -> Outcome
     requires { IsReady begun.desk begun.published }
     ensures served { IfSome result.end (Served (λ s l. (w : W) × (W.seen w ≡ s) × (W.lately w ≡ l)) (desk_of begun.desk).generations
         (W.seen world.old) (W.seen world.new) (option_map desk_of result.desk)) }
@@ -95,7 +90,9 @@ fn run_begun<R: Wait, W: World>(
     ensures published { result.published ≡ begun.published }
 {
     let Beginning {
-        desk, published, ..
+        desk,
+        published,
+        ..
     } = begun;
     if published == 0 {
         run_final(rt, alloc, FinalDesk::<0>::new(desk), world)
