@@ -11,22 +11,22 @@ use Rattle.serve_cmd.proofs.serving.run_first.Goals as goal
 pub returns-clause-served : goal.returns-clause-served
 returns-clause-served g c =
     let d : OneDesk = c.args.desk.desk in
-    let e : OneDesk = c.run_worker.new.shared.desk in
+    let e : OneDesk = c.run_worker-end.new.shared.desk in
     let before : Seen = g.W.World.seen c.args.world.now in
-    let now : Seen = g.W.World.seen c.run_worker.new.world in
+    let now : Seen = g.W.World.seen c.run_worker-end.new.world in
     let worker = c.in_ok-worker.worker in
-    let same = c.into_desk.ensures.all (desk_of d).generations (newest_plan d) c.run_worker.ensures.grew (map published_plan (published_in d.timeline.earlier.items), refl) c.args.desk.last in
-    subst (λ (x : OneDesk). Served _ (desk_of d).generations before now (Some (desk_of x)) c.run_worker.result) (sym c.into_desk.ensures.desk)
-    (served_by _ (desk_of d).generations worker.conns worker.links before now (desk_of e) c.run_worker.result same c.in_ok-worker.ensures.links c.in_ok-worker.ensures.empty
-    c.run_worker.ensures.served c.run_worker.ensures.rounds c.run_worker.ensures.met c.run_worker.ensures.noted
-    c.run_worker.ensures.closed c.run_worker.ensures.owned c.run_worker.ensures.distinct
-    (λ why. let s = c.run_worker.ensures.settled why in (g.W.World.seen s.0, g.W.World.lately s.0, (s.0, refl, refl), (s.1, s.2, s.3)))
-    (end_by before now c.run_worker.result c.run_worker.ensures.stopped c.run_worker.ensures.fault)
+    let same = c.into_desk.ensures.all (desk_of d).generations (newest_plan d) c.run_worker-end.ensures.grew (map published_plan (published_in d.timeline.earlier.items), refl) c.args.desk.last in
+    subst (λ (x : OneDesk). Served _ (desk_of d).generations before now (Some (desk_of x)) c.run_worker-end.result) (sym c.into_desk.ensures.desk)
+    (served_by _ (desk_of d).generations worker.conns worker.links before now (desk_of e) c.run_worker-end.result same c.in_ok-worker.ensures.links c.in_ok-worker.ensures.empty
+    c.run_worker-end.ensures.served c.run_worker-end.ensures.rounds c.run_worker-end.ensures.met c.run_worker-end.ensures.noted
+    c.run_worker-end.ensures.closed c.run_worker-end.ensures.owned c.run_worker-end.ensures.distinct
+    (λ why. let s = c.run_worker-end.ensures.settled why in (g.W.World.seen s.0, g.W.World.lately s.0, (s.0, refl, refl), (s.1, s.2, s.3)))
+    (end_by before now c.run_worker-end.result c.run_worker-end.ensures.stopped c.run_worker-end.ensures.fault)
     (λ not_memory. record {
       from = desk_of d;
       generations = refl;
       unpinned = c.requires;
-      conns = c.run_worker.new.worker.conns;
-      none = c.run_worker.ensures.ended;
-      accounts = c.run_worker.ensures.accounts before (desk_of d) not_memory (rw c.in_ok-worker.is at c.new.ensures.accounts before (desk_of d));
+      conns = c.run_worker-end.new.worker.conns;
+      none = c.run_worker-end.ensures.ended;
+      accounts = c.run_worker-end.ensures.accounts before (desk_of d) not_memory (rw c.in_ok-worker.is at c.new.ensures.accounts before (desk_of d));
     }))
