@@ -28,5 +28,5 @@ returns-clause-served g c =
       unpinned = c.requires;
       conns = c.run_worker-end.new.worker.conns;
       none = c.run_worker-end.ensures.ended;
-      accounts = c.run_worker-end.ensures.accounts before (desk_of d) not_memory (rw c.in_ok-worker.is at c.new.ensures.accounts before (desk_of d));
+      accounts = c.run_worker-end.ensures.accounts before (desk_of d) not_memory (c.in_ok-worker.ensures.accounts before (desk_of d));
     }))
