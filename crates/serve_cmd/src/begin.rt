@@ -6,7 +6,6 @@ ghost use Rattle.generation.specs.Meaning.{plan_of};
 ghost use Rattle.desk.specs.Kept.{desk_of, newest_plan};
 ghost use Rattle.serve_cmd.specs.Meanings.{IsBegun, IsEmpty, plans_by};
 ghost use Rattle.serve_cmd.specs.Ran.{WasBegun, WasCut};
-ghost use Rattle.serve_cmd.specs.Ready.{IsReady};
 ghost use Rattle.serve_cmd.specs.Stops.{IsStop};
 
 use crate::loading::{Found, Stop, load_first};
@@ -36,12 +35,11 @@ pub(crate) fn begin<F: Files, K: Sink, S: PatternShop>(
     out: &mut K,
     shop: &mut S,
 ) -> Result<Beginning, Stop>
-    ensures begun { IfOk result (λ b. WasBegun path.now (F.loads files.old) (F.loads files.new) (S.refusals shop.old) (S.refusals shop.new)
-        (K.held out.old) (K.held out.new) (desk_of b.desk).generations b.published) }
-    ensures ready { IfOk result (λ b. IsReady b.desk b.published) }
+    ensures begun { IfOk result (λ b. WasBegun path.now (F.loads files.old) (F.loads files.new) (K.held out.old) (K.held out.new)
+        (desk_of b.desk).generations b.published) }
     ensures stop { IfErr result (IsStop (Rose (F.faults files.old) (F.faults files.new)) (Rose (K.faults out.old) (K.faults out.new))
         (K.held out.new ≡ K.held out.old)
-        (WasCut path.now (F.loads files.old) (F.loads files.new) (S.refusals shop.old) (S.refusals shop.new) (K.held out.old) (K.held out.new))) }
+        (WasCut path.now (F.loads files.old) (F.loads files.new) (K.held out.old) (K.held out.new))) }
 {
     let found = load_first(alloc, path, files)?;
     let begun = publish_found(alloc, &found, shop)?;
@@ -57,8 +55,7 @@ fn publish_found<S: PatternShop>(
     found: &Found,
     shop: &mut S,
 ) -> Result<Beginning, Memory>
-    ensures begun { IfOk result (λ b. IsBegun (S.refusals shop.old) (S.refusals shop.new) found.now b.text.items (desk_of b.desk).generations b.published) }
-    ensures ready { IfOk result (λ b. IsReady b.desk b.published) }
+    ensures { IfOk result (λ b. IsBegun found.now b.text.items (desk_of b.desk).generations b.published) }
 {
     let reading = read_found(alloc, found, shop)?;
     let mut desk = empty_desk(alloc)?;
@@ -72,8 +69,7 @@ fn publish_found<S: PatternShop>(
 
 // A desk that has seen the empty configuration.
 fn empty_desk(alloc: Global) -> Result<OneDesk, Memory>
-    ensures seen { IfOk result (λ d. ((desk_of d).generations ≡ newest_plan d ∷ []) × IsEmpty (newest_plan d)) }
-    ensures pins { IfOk result (λ d. (desk_of d).pins ≡ []) }
+    ensures { IfOk result (λ d. ((desk_of d).generations ≡ newest_plan d ∷ []) × IsEmpty (newest_plan d)) }
 {
     let first = Arc::new(alloc, empty_generation(alloc)?)?;
     OneDesk::new(alloc, first)
@@ -87,10 +83,8 @@ fn publish_first(
 ) -> Result<u64, Memory>
     requires empty { IsEmpty (newest_plan desk.old) }
     requires number { IfSome generation (λ g. (plan_of g).number ≡ 1) }
-    requires pins { (desk_of desk.old).pins ≡ [] }
     ensures published { IfOk result (λ n. (desk_of desk.new).generations ≡ (desk_of desk.old).generations ++ plans_by generation) }
     ensures count { IfOk result (λ n. n ≡ length (plans_by generation)) }
-    ensures ready { IfOk result (IsReady desk.new) }
 {
     match generation {
         Some(generation) => {

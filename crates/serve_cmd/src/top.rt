@@ -1,12 +1,10 @@
 //! The top call.
-ghost use Rattle.std.specs.Prelude.{◌≡◌, ◌≤◌, ◌<◌, IfSome, IfNone, Option, option_map, List, ℕ, vec_len};
+ghost use Rattle.std.specs.Prelude.{◌≡◌, ◌≤◌, ◌<◌, IfSome, IfNone, Option, List, ℕ, vec_len};
 ghost use Rattle.px_base.specs.Bytes.{Rose};
-ghost use Rattle.desk.specs.Kept.{desk_of};
 ghost use Rattle.serve_cmd.specs.Ran.{Ran, WasCut, IsStatus};
 ghost use Rattle.serve_cmd.specs.Worlds.{AtFirst};
 
 use crate::serving::{Outcome, serve_over};
-use desk::OneDesk;
 use link_world::{ServePlan, World};
 use publisher::Files;
 use px_base::Sink;
@@ -26,8 +24,6 @@ pub struct ServeEnd<W: Drop, F: Drop, K: Drop, S: Drop> {
     pub shop: S,
     /// The end of the worker, if one ran.
     pub end: Option<WorkerEnd>,
-    /// The desk that it used.
-    pub desk: Option<OneDesk>,
     /// The number of the last generation that was published.
     pub published: u64,
 }
@@ -54,13 +50,11 @@ pub fn serve<R: Wait, W: World + Drop, F: Files + Drop, K: Sink + Drop, S: Patte
 ) -> ServeEnd<W, F, K, S>
     requires { 0 < vec_len worlds }
 
-    // Where a worker ran, the file was loaded, published and written, and it ran by exactly what was published: in rounds,
-    // each connection whose end it noted was served, and no client is forgotten. Each pin of the desk that it used is
-    // accounted for. A stop was asked for when nothing more could be done.
+    // Where a worker ran, the file was loaded, published and written, and each connection that it ended was served by what
+    // was published.
     ensures ran { IfSome result.end (λ end. AtFirst worlds.items result.worlds.items (λ before now.
-        Ran (λ s l. (w : W) × (W.seen w ≡ s) × (W.lately w ≡ l)) plan.now.poll.file (F.loads files) (F.loads result.files)
-        (S.refusals shop) (S.refusals result.shop) (K.held out) (K.held result.out)
-        (W.seen before) (W.seen now) (option_map desk_of result.desk) end result.published)) }
+        Ran plan.now.poll.file (F.loads files) (F.loads result.files) (K.held out) (K.held result.out)
+        (W.seen before) (W.seen now) end result.published)) }
     ensures idle { IfNone result.end (AtFirst worlds.items result.worlds.items (λ before now. W.seen now ≡ W.seen before)) }
     ensures status { IsStatus result.end result.status }
 
@@ -70,13 +64,11 @@ pub fn serve<R: Wait, W: World + Drop, F: Files + Drop, K: Sink + Drop, S: Patte
 
     // Then nothing was written, or a proper part of the text.
     ensures silent { result.status ≡ 5 → K.held result.out ≡ K.held out }
-    ensures cut { result.status ≡ 6 → WasCut plan.now.poll.file (F.loads files) (F.loads result.files) (S.refusals shop) (S.refusals result.shop)
-        (K.held out) (K.held result.out) }
+    ensures cut { result.status ≡ 6 → WasCut plan.now.poll.file (F.loads files) (F.loads result.files) (K.held out) (K.held result.out) }
 {
     let Outcome {
         status,
         end,
-        desk,
         published,
     } = serve_over(
         rt,
@@ -94,7 +86,6 @@ pub fn serve<R: Wait, W: World + Drop, F: Files + Drop, K: Sink + Drop, S: Patte
         out,
         shop,
         end,
-        desk,
         published,
     }
 }
