@@ -1,8 +1,8 @@
 -- What a look, a pick and a refused draw leave of a pinned request.
-use Rattle.std.proofs.Common.{◌≡◌, ℕ, List, [], ◌∷◌, ◌++◌, Some, refl, sym, ◌∙◌, ap, subst, arith, Bool, true, false, not, ◌==◌}
+use Rattle.std.proofs.Common.{◌≡◌, ℕ, List, [], ◌∷◌, ◌++◌, map, Some, refl, sym, ◌∙◌, ap, subst, arith, Bool, true, false, not, ◌==◌}
 use Rattle.std.specs.List.{flat_map}
 use Rattle.std.specs.Prelude.{is_some, ◌%◌}
-use Rattle.std.proofs.lemmas.List.{append-nil}
+use Rattle.std.proofs.lemmas.List.{append-nil, append_assoc}
 use Rattle.std.proofs.lemmas.Bool.Decides.{nat_tests}
 use Rattle.ip_net.specs.declared.ip.Ip.{Ip}
 use Rattle.link_world.specs.declared.note.Note.{Note}
@@ -10,10 +10,11 @@ use Rattle.link_world.specs.declared.note.Look.{Look as LookNote}
 use Rattle.link_world.specs.declared.note.NodePick.{NodePick}
 use Rattle.link_world.specs.declared.note.Cause.{Cause}
 use Rattle.link_world.specs.declared.note.Cause.TheVariants.{NoChild, Spent as SpentCause}
-use Rattle.conversation.specs.Steps.{Step, looked, drew, spent}
+use Rattle.conversation.specs.Plans.{Plan}
+use Rattle.conversation.specs.Steps.{Step, Choice, of_plan, of_look, of_pick, of_refused, looked, drew, spent}
 use Rattle.conversation.proofs.Holdings.{ended_last}
 use Rattle.conversation.specs.Turns.{Stage as TurnStage, routed, down, up, refused, picked, Turn, closes, is_up, node_of, IsAt, IsUndecided, IsOwnText, AnswersBy, AnswersOwn}
-use Rattle.conversation.specs.Served.{looks_of, picks_of, spents_of}
+use Rattle.conversation.specs.Served.{of_all, looks_of, picks_of, spents_of, chosen_by, choices_of}
 use Rattle.conversation.specs.Holding.{Told, Holds, Sound}
 use Rattle.conversation.proofs.Tellings.{told_looked, told_drew, told_spent, failures_quiet, sound_looked, sound_drew, sound_spent}
 use Rattle.conn_machine.specs.Parts.{Trail, IsAim, IsOpenAt, IsAimedAt, end_by}
@@ -25,10 +26,33 @@ use Rattle.conn_machine.specs.declared.parts.Stage.TheVariants.{Look, Down, Walk
 use Rattle.conn_machine.proofs.Opens.{holds_as}
 use Rattle.conn_machine.proofs.Turnings.{Turning, IsAlike, turning, at_turn, opened_turn, opened_replied, own_text_of, own_some, replied}
 
+abbrev looks_chosen : List LookNote → List Choice
+looks_chosen = map (λ (l : LookNote). of_look l)
+
+abbrev picks_chosen : List NodePick → List Choice
+picks_chosen = map (λ (k : NodePick). of_pick k)
+
+-- what is chosen for a request is the last of its choices
+look_last : (p : Plan) (l : LookNote) (ls : List LookNote) (ks : List NodePick) (ns : List ℕ) → ls ≡ [] → ks ≡ [] → ns ≡ [] → chosen_by p ls ks ns ++ of_look l ∷ [] ≡ chosen_by p (l ∷ []) ks ns
+look_last p l ls ks ns a b c = rw (a, b, c) refl
+
+pick_last : (p : Plan) (k : NodePick) (ls : List LookNote) (ks : List NodePick) (ns : List ℕ) → ks ≡ [] → ns ≡ [] → chosen_by p ls ks ns ++ of_pick k ∷ [] ≡ chosen_by p ls (k ∷ []) ns
+pick_last p k ls ks ns b c =
+    rw (b, c) (ap (λ (x : List Choice). of_plan p ∷ x)
+    (ap (λ (x : List Choice). x ++ of_pick k ∷ []) (append-nil (looks_chosen ls ++ []) ∙ append-nil (looks_chosen ls)) ∙ sym (append-nil (looks_chosen ls ++ of_pick k ∷ []))))
+
+refused_last : (p : Plan) (n : ℕ) (ls : List LookNote) (ks : List NodePick) (ns : List ℕ) → ns ≡ [] → chosen_by p ls ks ns ++ of_refused n ∷ [] ≡ chosen_by p ls ks (n ∷ [])
+refused_last p n ls ks ns c =
+    rw c (ap (λ (x : List Choice). of_plan p ∷ (x ++ of_refused n ∷ [])) (append-nil (looks_chosen ls ++ picks_chosen ks)))
+
+chooses : (done : List Turn) (u v : Turn) (one : Choice) → choices_of u ++ one ∷ [] ≡ choices_of v → (all : List Choice) → all ≡ of_all choices_of done (Some u) → all ++ one ∷ [] ≡ of_all choices_of done (Some v)
+chooses done u v one is all whole =
+    ap (λ (x : List Choice). x ++ one ∷ []) whole ∙ append_assoc (flat_map choices_of done) (choices_of u) (one ∷ []) ∙ ap (λ (x : List Choice). flat_map choices_of done ++ x) is
+
 holds_looked : {t : Told} {link : ℕ} {entry : List ℕ} {peer : Ip} {done : List Turn} {u : Turn} {rest left : List ℕ} {waiting closed ending : List Note} {over : Bool} {number next : ℕ} (l : LookNote)
-    → u.looks ≡ [] → Holds t link entry peer done (Some u) rest left waiting closed ending over number next
-    → Holds (record t { looks = t.looks ++ l ∷ [] }) link entry peer done (Some (record u { looks = l ∷ [] })) rest left waiting closed ending over number next
-holds_looked {done} l none r = record {
+    → u.looks ≡ [] → u.picks ≡ [] → u.spents ≡ [] → Holds t link entry peer done (Some u) rest left waiting closed ending over number next
+    → Holds (record t { looks = t.looks ++ l ∷ []; choices = t.choices ++ of_look l ∷ [] }) link entry peer done (Some (record u { looks = l ∷ [] })) rest left waiting closed ending over number next
+holds_looked {t} {done} {u} l none no_picks no_spents r = record {
   arrived = r.arrived;
   reads = r.reads;
   spells = r.spells;
@@ -38,6 +62,7 @@ holds_looked {done} l none r = record {
   looked = ap (λ (x : List LookNote). x ++ l ∷ []) (r.looked ∙ ap (λ (x : List LookNote). flat_map looks_of done ++ x) none ∙ append-nil (flat_map looks_of done));
   picked = r.picked;
   refused = r.refused;
+  chosen = chooses done u (record u { looks = l ∷ [] }) (of_look l) (look_last u.plan l u.looks u.picks u.spents none no_picks no_spents) t.choices r.chosen;
   own = r.own;
   links = r.links;
   rising = r.rising;
@@ -48,9 +73,9 @@ holds_looked {done} l none r = record {
 }
 
 holds_drew : {t : Told} {link : ℕ} {entry : List ℕ} {peer : Ip} {done : List Turn} {u : Turn} {rest left : List ℕ} {waiting closed ending : List Note} {over : Bool} {number next : ℕ} (p : NodePick)
-    → u.picks ≡ [] → Holds t link entry peer done (Some u) rest left waiting closed ending over number next
-    → Holds (record t { picks = t.picks ++ p ∷ [] }) link entry peer done (Some (record u { picks = p ∷ [] })) rest left waiting closed ending over number next
-holds_drew {done} p none r = record {
+    → u.picks ≡ [] → u.spents ≡ [] → Holds t link entry peer done (Some u) rest left waiting closed ending over number next
+    → Holds (record t { picks = t.picks ++ p ∷ []; choices = t.choices ++ of_pick p ∷ [] }) link entry peer done (Some (record u { picks = p ∷ [] })) rest left waiting closed ending over number next
+holds_drew {t} {done} {u} p none no_spents r = record {
   arrived = r.arrived;
   reads = r.reads;
   spells = r.spells;
@@ -60,6 +85,7 @@ holds_drew {done} p none r = record {
   looked = r.looked;
   picked = ap (λ (x : List NodePick). x ++ p ∷ []) (r.picked ∙ ap (λ (x : List NodePick). flat_map picks_of done ++ x) none ∙ append-nil (flat_map picks_of done));
   refused = r.refused;
+  chosen = chooses done u (record u { picks = p ∷ [] }) (of_pick p) (pick_last u.plan p u.looks u.picks u.spents none no_spents) t.choices r.chosen;
   own = r.own;
   links = r.links;
   rising = r.rising;
@@ -71,8 +97,8 @@ holds_drew {done} p none r = record {
 
 holds_spent : {t : Told} {link : ℕ} {entry : List ℕ} {peer : Ip} {done : List Turn} {u : Turn} {rest left : List ℕ} {waiting closed ending : List Note} {over : Bool} {number next : ℕ} (n : ℕ)
     → u.spents ≡ [] → Holds t link entry peer done (Some u) rest left waiting closed ending over number next
-    → Holds (record t { spents = t.spents ++ n ∷ [] }) link entry peer done (Some (record u { spents = n ∷ [] })) rest left waiting closed ending over number next
-holds_spent {done} n none r = record {
+    → Holds (record t { spents = t.spents ++ n ∷ []; choices = t.choices ++ of_refused n ∷ [] }) link entry peer done (Some (record u { spents = n ∷ [] })) rest left waiting closed ending over number next
+holds_spent {t} {done} {u} n none r = record {
   arrived = r.arrived;
   reads = r.reads;
   spells = r.spells;
@@ -82,6 +108,7 @@ holds_spent {done} n none r = record {
   looked = r.looked;
   picked = r.picked;
   refused = ap (λ (x : List ℕ). x ++ n ∷ []) (r.refused ∙ ap (λ (x : List ℕ). flat_map spents_of done ++ x) none ∙ append-nil (flat_map spents_of done));
+  chosen = chooses done u (record u { spents = n ∷ [] }) (of_refused n) (refused_last u.plan n u.looks u.picks u.spents none) t.choices r.chosen;
   own = r.own;
   links = r.links;
   rising = r.rising;
@@ -127,7 +154,7 @@ looked_turn {steps} {k} {m} {trail} {pending} b l {trail'} in_looks in_picks in_
       done = t.done;
       turn = v;
       rest = t.rest;
-      holds = holds_as (told_looked k.link steps l) refl refl refl refl refl refl refl refl refl (holds_looked l x.3 t.holds);
+      holds = holds_as (told_looked k.link steps l) refl refl refl refl refl refl refl refl refl (holds_looked l x.3 x.4 x.5 t.holds);
       sound = record { all = s.all; one = record { item = s.one.item; answers = subst (λ (c : Cause). AnswersBy c k.entry k.peer v) (sym undecided.cause) (looked_stage b, undecided); shown = s.one.shown } };
       tied = record {
         index = t.tied.index;
@@ -197,7 +224,7 @@ opened_drew {steps} {k} {m} {trail} {input} {pending} {waiting} {over} p {trail'
       done = t.done;
       turn = v;
       rest = t.rest;
-      holds = holds_as (told_drew k.link steps p) refl refl refl refl refl refl refl refl refl (holds_drew p x.4 t.holds);
+      holds = holds_as (told_drew k.link steps p) refl refl refl refl refl refl refl refl refl (holds_drew p x.4 x.5 t.holds);
       sound = record { all = s.all; one = record { item = s.one.item; answers = subst (λ (c : Cause). AnswersBy c k.entry k.peer v) (sym undecided.cause) (picked, undecided); shown = s.one.shown } };
       tied = record {
         index = t.tied.index;

@@ -13,10 +13,10 @@ use Rattle.link_world.specs.declared.note.NodePick.{NodePick}
 use Rattle.link_world.specs.declared.note.Cause.TheVariants.{Undecided}
 use Rattle.link_world.specs.Log.{LinkEvent, came, gave, gave_end, took, noted, given, taken, notes, ends, given_by, taken_by, note_by, end_by}
 use Rattle.conversation.specs.Plans.{Plan}
-use Rattle.conversation.specs.Steps.{Step, happened, history, failures, stops, pins}
+use Rattle.conversation.specs.Steps.{Step, Choice, of_plan, happened, history, failures, stops, pins}
 use Rattle.conversation.specs.Asks.{Ask}
 use Rattle.conversation.specs.Turns.{Turn, links_of, note_of, HasAnswer}
-use Rattle.conversation.specs.Served.{of_all, of_last, item_of, reply_of, pin_of, looks_of, picks_of, spents_of, backs_of, notes_of, IfLast, AreDistinct, AreNumbered, Rises, IsWhole, EndedWithin, IsHeadPart, EndHolds, end_note, Served}
+use Rattle.conversation.specs.Served.{of_all, of_last, item_of, reply_of, pin_of, looks_of, picks_of, spents_of, chosen_by, choices_of, backs_of, notes_of, IfLast, AreDistinct, AreNumbered, Rises, IsWhole, EndedWithin, IsHeadPart, EndHolds, end_note, Served}
 use Rattle.conversation.specs.Holding.{Told, told, Holds, Sound, IsReplyKnown, IsUntaken, EndedIn}
 use Rattle.conversation.proofs.Tellings.{history_more, failures_happened, stops_happened}
 
@@ -112,6 +112,7 @@ event {t} {link} {entry} {peer} {done} {last} {rest} {left} e {rest'} {left'} {w
   looked = r.looked;
   picked = r.picked;
   refused = r.refused;
+  chosen = r.chosen;
   own = r.own;
   links = r.links;
   rising = r.rising;
@@ -122,7 +123,7 @@ event {t} {link} {entry} {peer} {done} {last} {rest} {left} e {rest'} {left'} {w
 }
 
 -- a client came
-pub holds_came : (link : ℕ) (entry : List ℕ) (peer : Ip) → Holds (record { events = came entry peer ∷ []; others = []; pins = []; looks = []; picks = []; spents = [] }) link entry peer [] None [] [] [] [] [] false 0 1
+pub holds_came : (link : ℕ) (entry : List ℕ) (peer : Ip) → Holds (record { events = came entry peer ∷ []; others = []; pins = []; looks = []; picks = []; spents = []; choices = [] }) link entry peer [] None [] [] [] [] [] false 0 1
 holds_came link entry peer = record {
   arrived = ([], refl);
   reads = refl;
@@ -133,6 +134,7 @@ holds_came link entry peer = record {
   looked = refl;
   picked = refl;
   refused = refl;
+  chosen = refl;
   own = tt;
   links = tt;
   rising = omega arith;
@@ -170,6 +172,7 @@ holds_forgot r = record {
   looked = r.looked;
   picked = r.picked;
   refused = r.refused;
+  chosen = r.chosen;
   own = r.own;
   links = r.links;
   rising = r.rising;
@@ -266,7 +269,7 @@ fresh_unknown index item ask p (inr (r, b, asked, back, given_)) = let e : None 
 pub holds_pinned : {t : Told} {link : ℕ} {entry : List ℕ} {peer : Ip} {done : List Turn} {rest left : List ℕ} {waiting closed ending : List Note} {over : Bool} {number next : ℕ}
     (item : List ℕ) (ask : Ask) (p : Plan) {rest' : List ℕ} → rest ≡ item ++ rest' → number ≤ p.number
     → Holds t link entry peer done None rest left waiting closed ending over number next
-    → Holds (record t { pins = t.pins ++ p ∷ [] }) link entry peer done (Some (fresh_turn next item ask p)) rest' left waiting closed ending over p.number next
+    → Holds (record t { pins = t.pins ++ p ∷ []; choices = t.choices ++ of_plan p ∷ [] }) link entry peer done (Some (fresh_turn next item ask p)) rest' left waiting closed ending over p.number next
 holds_pinned {t} {link} {entry} {peer} {done} {rest} {left} {number} {next} item ask p {rest'} in_rest le r = record {
   arrived = r.arrived;
   reads = r.reads ∙ ap (λ (l : List ℕ). (flat_map item_of done ++ []) ++ l) in_rest ∙ ap (λ (l : List ℕ). l ++ (item ++ rest')) (append-nil (flat_map item_of done)) ∙ sym (append_assoc (flat_map item_of done) item rest');
@@ -277,6 +280,7 @@ holds_pinned {t} {link} {entry} {peer} {done} {rest} {left} {number} {next} item
   looked = add_last looks_of done (fresh_turn next item ask p) t.looks r.looked refl;
   picked = add_last picks_of done (fresh_turn next item ask p) t.picks r.picked refl;
   refused = add_last spents_of done (fresh_turn next item ask p) t.spents r.refused refl;
+  chosen = ap (λ (l : List Choice). l ++ of_plan p ∷ []) (r.chosen ∙ append-nil (flat_map choices_of done));
   own = r.own;
   links = r.links;
   rising = rises_more 0 t.pins number p r.rising le;
@@ -294,6 +298,9 @@ pub record SameTurn (u v : Turn) : Type 0 where
   pub looks : v.looks ≡ u.looks
   pub picks : v.picks ≡ u.picks
   pub spents : v.spents ≡ u.spents
+
+same_choices : (p q : Plan) (l m : List Look) (k j : List NodePick) (x y : List ℕ) → p ≡ q → l ≡ m → k ≡ j → x ≡ y → chosen_by p l k x ≡ chosen_by q m j y
+same_choices p q l m k j x y a b c d = rw (a, b, c, d) refl
 
 -- a number that is none of these may follow them
 distinct_push : (ns : List ℕ) (n : ℕ) → AllByRecursion (λ (m : ℕ). m ≢ n) ns → AreDistinct ns → AreDistinct (ns ++ n ∷ [])
@@ -352,6 +359,7 @@ holds_others others more r = record {
   looked = r.looked;
   picked = r.picked;
   refused = r.refused;
+  chosen = r.chosen;
   own = r.own;
   links = more r.links;
   rising = r.rising;
@@ -377,6 +385,7 @@ holds_replied {t} {link} {entry} {peer} {done} {u} {rest} {left} v more {left'} 
   looked = r.looked ∙ ap (λ (l : List Look). flat_map looks_of done ++ l) (sym same.looks);
   picked = r.picked ∙ ap (λ (l : List NodePick). flat_map picks_of done ++ l) (sym same.picks);
   refused = r.refused ∙ ap (λ (l : List ℕ). flat_map spents_of done ++ l) (sym same.spents);
+  chosen = r.chosen ∙ ap (λ (l : List Choice). flat_map choices_of done ++ l) (sym (same_choices v.plan u.plan v.looks u.looks v.picks u.picks v.spents u.spents same.plan same.looks same.picks same.spents));
   own = own.own r.own;
   links = all_by (Contains (of_all backs_of done (Some u))) (Contains (of_all backs_of done (Some v))) t.others own.links r.links;
   rising = r.rising;
@@ -420,6 +429,7 @@ holds_done {t} {link} {done} {u} {rest} {left} {waiting} {next} whole none r = r
   looked = close_list looks_of done u t.looks r.looked;
   picked = close_list picks_of done u t.picks r.picked;
   refused = close_list spents_of done u t.spents r.refused;
+  chosen = close_list choices_of done u t.choices r.chosen;
   own = subst AreDistinct (close_list backs_of done u (of_all backs_of done (Some u)) refl) r.own;
   links = subst (λ (l : List ℕ). AllByRecursion (Contains l) t.others) (close_list backs_of done u (of_all backs_of done (Some u)) refl) r.links;
   rising = r.rising;
@@ -490,6 +500,7 @@ served steps plans link entry peer done last rest left waiting over number next 
   looked = r.looked;
   picked = r.picked;
   refused = r.refused;
+  chosen = r.chosen;
   own = r.own;
   links = r.links;
   published = held;

@@ -9,7 +9,7 @@ use Rattle.link_world.specs.declared.note.Look.{Look}
 use Rattle.link_world.specs.declared.note.NodePick.{NodePick}
 use Rattle.link_world.specs.Log.{LinkEvent, came, dialled, only_if}
 use Rattle.conversation.specs.Plans.{Plan}
-use Rattle.conversation.specs.Steps.{Step, happened, failed, pinned, looked, drew, spent, ticked, stopped, history, failures, elsewhere, pins, looks, picks, spents, stops, history_by, failures_by, elsewhere_by, pins_by, looks_by, picks_by, spents_by, stops_by}
+use Rattle.conversation.specs.Steps.{Step, Choice, of_plan, of_look, of_pick, of_refused, happened, failed, pinned, looked, drew, spent, ticked, stopped, history, failures, elsewhere, pins, looks, picks, spents, stops, choices, history_by, failures_by, elsewhere_by, pins_by, looks_by, picks_by, spents_by, stops_by, choices_by}
 use Rattle.conversation.specs.Turns.{Turn, BackLink, IsTold, IsLinkTold, IsShown}
 use Rattle.conversation.specs.Served.{IfLast, IsAnswered}
 use Rattle.conversation.specs.Holding.{Told, told, Sound}
@@ -35,11 +35,11 @@ history_quiet link steps s none = quiet (history_by link) steps s none
 pub failures_quiet : (link : ℕ) (steps : List Step) (s : Step) → failures_by link s ≡ [] → failures link (steps ++ s ∷ []) ≡ failures link steps
 failures_quiet link steps s none = quiet (failures_by link) steps s none
 
-six : (a b : List LinkEvent) (v w : List ℕ) (p q : List Plan) (l m : List Look) (k j : List NodePick) (x y : List ℕ)
-    → a ≡ b → v ≡ w → p ≡ q → l ≡ m → k ≡ j → x ≡ y
-    → (let u : Told = record { events = a; others = v; pins = p; looks = l; picks = k; spents = x } in u)
-    ≡ record { events = b; others = w; pins = q; looks = m; picks = j; spents = y }
-six a b v w p q l m k j x y d e f g h i = cc
+seven : (a b : List LinkEvent) (v w : List ℕ) (p q : List Plan) (l m : List Look) (k j : List NodePick) (x y : List ℕ) (c o : List Choice)
+    → a ≡ b → v ≡ w → p ≡ q → l ≡ m → k ≡ j → x ≡ y → c ≡ o
+    → (let u : Told = record { events = a; others = v; pins = p; looks = l; picks = k; spents = x; choices = c } in u)
+    ≡ record { events = b; others = w; pins = q; looks = m; picks = j; spents = y; choices = o }
+seven a b v w p q l m k j x y c o d e f g h i n = cc
 
 -- a step on the link isn't elsewhere
 elsewhere_same : (link : ℕ) (steps : List Step) (s : Step) → elsewhere_by link s ≡ only_if (not (link == link)) (link ∷ []) → elsewhere link (steps ++ s ∷ []) ≡ elsewhere link steps
@@ -52,62 +52,62 @@ elsewhere_other link l steps s differs is = snoc (elsewhere_by link) steps s ∙
 pub told_happened : (link : ℕ) (steps : List Step) (e : LinkEvent)
     → told link (steps ++ happened link e ∷ []) ≡ record (told link steps) { events = history link steps ++ e ∷ [] }
 told_happened link steps e =
-    six _ _ _ _ _ _ _ _ _ _ _ _ (history_more link steps e) (elsewhere_same link steps (happened link e) refl) (quiet pins_by steps (happened link e) refl) (quiet looks_by steps (happened link e) refl)
-    (quiet picks_by steps (happened link e) refl) (quiet spents_by steps (happened link e) refl)
+    seven _ _ _ _ _ _ _ _ _ _ _ _ _ _ (history_more link steps e) (elsewhere_same link steps (happened link e) refl) (quiet pins_by steps (happened link e) refl) (quiet looks_by steps (happened link e) refl)
+    (quiet picks_by steps (happened link e) refl) (quiet spents_by steps (happened link e) refl) (quiet choices_by steps (happened link e) refl)
 
 -- a step that tells nothing of these
-told_quiet : (link : ℕ) (steps : List Step) (s : Step) → history_by link s ≡ [] → elsewhere link (steps ++ s ∷ []) ≡ elsewhere link steps → pins_by s ≡ [] → looks_by s ≡ [] → picks_by s ≡ [] → spents_by s ≡ []
+told_quiet : (link : ℕ) (steps : List Step) (s : Step) → history_by link s ≡ [] → elsewhere link (steps ++ s ∷ []) ≡ elsewhere link steps → pins_by s ≡ [] → looks_by s ≡ [] → picks_by s ≡ [] → spents_by s ≡ [] → choices_by s ≡ []
     → told link (steps ++ s ∷ []) ≡ told link steps
-told_quiet link steps s h o p l k x =
-    six _ _ _ _ _ _ _ _ _ _ _ _ (history_quiet link steps s h) o (quiet pins_by steps s p) (quiet looks_by steps s l) (quiet picks_by steps s k) (quiet spents_by steps s x)
+told_quiet link steps s h o p l k x c =
+    seven _ _ _ _ _ _ _ _ _ _ _ _ _ _ (history_quiet link steps s h) o (quiet pins_by steps s p) (quiet looks_by steps s l) (quiet picks_by steps s k) (quiet spents_by steps s x) (quiet choices_by steps s c)
 
 -- a step on another link
-told_other : (link l : ℕ) (steps : List Step) (s : Step) → link ≢ l → history_by link s ≡ [] → elsewhere_by link s ≡ only_if (not (link == l)) (l ∷ []) → pins_by s ≡ [] → looks_by s ≡ [] → picks_by s ≡ [] → spents_by s ≡ []
+told_other : (link l : ℕ) (steps : List Step) (s : Step) → link ≢ l → history_by link s ≡ [] → elsewhere_by link s ≡ only_if (not (link == l)) (l ∷ []) → pins_by s ≡ [] → looks_by s ≡ [] → picks_by s ≡ [] → spents_by s ≡ [] → choices_by s ≡ []
     → told link (steps ++ s ∷ []) ≡ record (told link steps) { others = elsewhere link steps ++ l ∷ [] }
-told_other link l steps s differs h o p k x y =
-    six _ _ _ _ _ _ _ _ _ _ _ _ (history_quiet link steps s h) (elsewhere_other link l steps s differs o) (quiet pins_by steps s p) (quiet looks_by steps s k) (quiet picks_by steps s x) (quiet spents_by steps s y)
+told_other link l steps s differs h o p k x y c =
+    seven _ _ _ _ _ _ _ _ _ _ _ _ _ _ (history_quiet link steps s h) (elsewhere_other link l steps s differs o) (quiet pins_by steps s p) (quiet looks_by steps s k) (quiet picks_by steps s x) (quiet spents_by steps s y) (quiet choices_by steps s c)
 
 pub told_elsewhere : (link l : ℕ) (steps : List Step) (e : LinkEvent) → link ≢ l
     → told link (steps ++ happened l e ∷ []) ≡ record (told link steps) { others = elsewhere link steps ++ l ∷ [] }
 told_elsewhere link l steps e differs =
-    told_other link l steps (happened l e) differs (ap (λ b. only_if b (e ∷ [])) (other_link link l differs)) refl refl refl refl refl
+    told_other link l steps (happened l e) differs (ap (λ b. only_if b (e ∷ [])) (other_link link l differs)) refl refl refl refl refl refl
 
 -- the link failed, and another one
 pub told_failed : (link : ℕ) (steps : List Step) → told link (steps ++ failed link ∷ []) ≡ told link steps
-told_failed link steps = told_quiet link steps (failed link) refl (elsewhere_same link steps (failed link) refl) refl refl refl refl
+told_failed link steps = told_quiet link steps (failed link) refl (elsewhere_same link steps (failed link) refl) refl refl refl refl refl
 
 pub told_failed_elsewhere : (link l : ℕ) (steps : List Step) → link ≢ l → told link (steps ++ failed l ∷ []) ≡ record (told link steps) { others = elsewhere link steps ++ l ∷ [] }
-told_failed_elsewhere link l steps differs = told_other link l steps (failed l) differs refl refl refl refl refl refl
+told_failed_elsewhere link l steps differs = told_other link l steps (failed l) differs refl refl refl refl refl refl refl
 
 pub told_stopped : (link : ℕ) (steps : List Step) → told link (steps ++ stopped ∷ []) ≡ told link steps
-told_stopped link steps = told_quiet link steps stopped refl (quiet (elsewhere_by link) steps stopped refl) refl refl refl refl
+told_stopped link steps = told_quiet link steps stopped refl (quiet (elsewhere_by link) steps stopped refl) refl refl refl refl refl
 
 pub told_ticked : (link : ℕ) (steps : List Step) (now : ℕ) → told link (steps ++ ticked now ∷ []) ≡ told link steps
-told_ticked link steps now = told_quiet link steps (ticked now) refl (quiet (elsewhere_by link) steps (ticked now) refl) refl refl refl refl
+told_ticked link steps now = told_quiet link steps (ticked now) refl (quiet (elsewhere_by link) steps (ticked now) refl) refl refl refl refl refl
 
 pub told_pinned : (link : ℕ) (steps : List Step) (p : Plan)
-    → told link (steps ++ pinned p ∷ []) ≡ record (told link steps) { pins = pins steps ++ p ∷ [] }
+    → told link (steps ++ pinned p ∷ []) ≡ record (told link steps) { pins = pins steps ++ p ∷ []; choices = choices steps ++ of_plan p ∷ [] }
 told_pinned link steps p =
-    six _ _ _ _ _ _ _ _ _ _ _ _ (history_quiet link steps (pinned p) refl) (quiet (elsewhere_by link) steps (pinned p) refl) (snoc pins_by steps (pinned p)) (quiet looks_by steps (pinned p) refl)
-    (quiet picks_by steps (pinned p) refl) (quiet spents_by steps (pinned p) refl)
+    seven _ _ _ _ _ _ _ _ _ _ _ _ _ _ (history_quiet link steps (pinned p) refl) (quiet (elsewhere_by link) steps (pinned p) refl) (snoc pins_by steps (pinned p)) (quiet looks_by steps (pinned p) refl)
+    (quiet picks_by steps (pinned p) refl) (quiet spents_by steps (pinned p) refl) (snoc choices_by steps (pinned p))
 
 pub told_looked : (link : ℕ) (steps : List Step) (l : Look)
-    → told link (steps ++ looked l ∷ []) ≡ record (told link steps) { looks = looks steps ++ l ∷ [] }
+    → told link (steps ++ looked l ∷ []) ≡ record (told link steps) { looks = looks steps ++ l ∷ []; choices = choices steps ++ of_look l ∷ [] }
 told_looked link steps l =
-    six _ _ _ _ _ _ _ _ _ _ _ _ (history_quiet link steps (looked l) refl) (quiet (elsewhere_by link) steps (looked l) refl) (quiet pins_by steps (looked l) refl) (snoc looks_by steps (looked l))
-    (quiet picks_by steps (looked l) refl) (quiet spents_by steps (looked l) refl)
+    seven _ _ _ _ _ _ _ _ _ _ _ _ _ _ (history_quiet link steps (looked l) refl) (quiet (elsewhere_by link) steps (looked l) refl) (quiet pins_by steps (looked l) refl) (snoc looks_by steps (looked l))
+    (quiet picks_by steps (looked l) refl) (quiet spents_by steps (looked l) refl) (snoc choices_by steps (looked l))
 
 pub told_drew : (link : ℕ) (steps : List Step) (p : NodePick)
-    → told link (steps ++ drew p ∷ []) ≡ record (told link steps) { picks = picks steps ++ p ∷ [] }
+    → told link (steps ++ drew p ∷ []) ≡ record (told link steps) { picks = picks steps ++ p ∷ []; choices = choices steps ++ of_pick p ∷ [] }
 told_drew link steps p =
-    six _ _ _ _ _ _ _ _ _ _ _ _ (history_quiet link steps (drew p) refl) (quiet (elsewhere_by link) steps (drew p) refl) (quiet pins_by steps (drew p) refl) (quiet looks_by steps (drew p) refl)
-    (snoc picks_by steps (drew p)) (quiet spents_by steps (drew p) refl)
+    seven _ _ _ _ _ _ _ _ _ _ _ _ _ _ (history_quiet link steps (drew p) refl) (quiet (elsewhere_by link) steps (drew p) refl) (quiet pins_by steps (drew p) refl) (quiet looks_by steps (drew p) refl)
+    (snoc picks_by steps (drew p)) (quiet spents_by steps (drew p) refl) (snoc choices_by steps (drew p))
 
 pub told_spent : (link : ℕ) (steps : List Step) (n : ℕ)
-    → told link (steps ++ spent n ∷ []) ≡ record (told link steps) { spents = spents steps ++ n ∷ [] }
+    → told link (steps ++ spent n ∷ []) ≡ record (told link steps) { spents = spents steps ++ n ∷ []; choices = choices steps ++ of_refused n ∷ [] }
 told_spent link steps n =
-    six _ _ _ _ _ _ _ _ _ _ _ _ (history_quiet link steps (spent n) refl) (quiet (elsewhere_by link) steps (spent n) refl) (quiet pins_by steps (spent n) refl) (quiet looks_by steps (spent n) refl)
-    (quiet picks_by steps (spent n) refl) (snoc spents_by steps (spent n))
+    seven _ _ _ _ _ _ _ _ _ _ _ _ _ _ (history_quiet link steps (spent n) refl) (quiet (elsewhere_by link) steps (spent n) refl) (quiet pins_by steps (spent n) refl) (quiet looks_by steps (spent n) refl)
+    (quiet picks_by steps (spent n) refl) (snoc spents_by steps (spent n)) (snoc choices_by steps (spent n))
 
 pub failures_failed : (link : ℕ) (steps : List Step) → failures link (steps ++ failed link ∷ []) ≡ failures link steps ++ tt ∷ []
 failures_failed link steps = snoc (failures_by link) steps (failed link) ∙ ap (λ b. failures link steps ++ only_if b (tt ∷ [])) (same_link link)

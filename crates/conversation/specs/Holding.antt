@@ -7,9 +7,9 @@ use Rattle.link_world.specs.declared.note.Note.{Note}
 use Rattle.link_world.specs.declared.note.Look.{Look}
 use Rattle.link_world.specs.declared.note.NodePick.{NodePick}
 use Rattle.conversation.specs.Plans.{Plan}
-use Rattle.conversation.specs.Steps.{Step, history, elsewhere, pins, looks, picks, spents}
+use Rattle.conversation.specs.Steps.{Step, Choice, history, elsewhere, pins, looks, picks, spents, choices}
 use Rattle.conversation.specs.Turns.{Turn, HasAnswer}
-use Rattle.conversation.specs.Served.{of_all, item_of, reply_of, pin_of, looks_of, picks_of, spents_of, backs_of, notes_of, IfLast, AreDistinct, AreNumbered, Rises, IsAnswered, IsWhole, TookReplies}
+use Rattle.conversation.specs.Served.{of_all, item_of, reply_of, pin_of, looks_of, picks_of, spents_of, choices_of, backs_of, notes_of, IfLast, AreDistinct, AreNumbered, Rises, IsAnswered, IsWhole, TookReplies}
 
 -- what the steps tell of the client's link, of other links and of the choices
 pub record Told : Type 0 where
@@ -19,9 +19,10 @@ pub record Told : Type 0 where
   pub looks : List Look
   pub picks : List NodePick
   pub spents : List ℕ
+  pub choices : List Choice
 
 abbrev pub told : ℕ → List Step → Told
-told link steps = record { events = history link steps; others = elsewhere link steps; pins = pins steps; looks = looks steps; picks = picks steps; spents = spents steps }
+told link steps = record { events = history link steps; others = elsewhere link steps; pins = pins steps; looks = looks steps; picks = picks steps; spents = spents steps; choices = choices steps }
 
 -- all of its reply is known: it is spelled whole, or its server gave a whole one
 abbrev pub IsReplyKnown : Turn → Type 0
@@ -53,6 +54,7 @@ pub record Holds (t : Told) (link : ℕ) (entry : List ℕ) (peer : Ip) (done : 
   pub looked : t.looks ≡ of_all looks_of done last
   pub picked : t.picks ≡ of_all picks_of done last
   pub refused : t.spents ≡ of_all spents_of done last
+  pub chosen : t.choices ≡ of_all choices_of done last
   pub own : AreDistinct (of_all backs_of done last)
   pub links : AllByRecursion (Contains (of_all backs_of done last)) t.others
   pub rising : Rises 0 t.pins number

@@ -1,5 +1,5 @@
 -- One connection that was served: its bytes in, its bytes out and its notes.
-use Rattle.std.specs.Prelude.{◌≡◌, ◌≢◌, ℕ, ◌+◌, ◌<◌, ◌≤◌, ◌⊎◌, true, false, List, [], ◌∷◌, ◌++◌, length, Option, Some, None}
+use Rattle.std.specs.Prelude.{◌≡◌, ◌≢◌, ℕ, ◌+◌, ◌<◌, ◌≤◌, ◌⊎◌, true, false, List, [], ◌∷◌, ◌++◌, length, map, Option, Some, None}
 use Rattle.std.specs.List.{flat_map, AllByRecursion, Contains}
 use Rattle.ip_net.specs.declared.ip.Ip.{Ip}
 use Rattle.httparse.specs.Grammar.{MayBecomeRequest}
@@ -17,7 +17,7 @@ use Rattle.link_world.specs.declared.note.Cause.TheVariants.{Passed}
 use Rattle.link_world.specs.declared.note.EndCause.{EndCause}
 use Rattle.link_world.specs.declared.note.EndCause.TheVariants.{Client, ClientFailed, Asked, Refused, Unread, Idle, Count, Cut, CutLate, Stopped, Memory}
 use Rattle.conversation.specs.Plans.{Plan}
-use Rattle.conversation.specs.Steps.{Step, history, elsewhere, pins, looks, picks, spents}
+use Rattle.conversation.specs.Steps.{Step, Choice, of_plan, of_look, of_pick, of_refused, history, elsewhere, pins, looks, picks, spents, choices}
 use Rattle.conversation.specs.Asks.{IsItem, asks, head_limit, line_limit}
 use Rattle.conversation.specs.Turns.{BackLink, Turn, links_of, note_of, end_of, closes, Answers, IsShown}
 
@@ -50,6 +50,14 @@ picks_of t = t.picks
 
 abbrev pub spents_of : Turn → List ℕ
 spents_of t = t.spents
+
+-- this configuration, then these looks, these picks and these refused draws
+abbrev pub chosen_by : Plan → List Look → List NodePick → List ℕ → List Choice
+chosen_by p looks picks spents =
+    of_plan p ∷ (map (λ (l : Look). of_look l) looks ++ map (λ (k : NodePick). of_pick k) picks ++ map (λ (n : ℕ). of_refused n) spents)
+
+abbrev pub choices_of : Turn → List Choice
+choices_of t = chosen_by t.plan t.looks t.picks t.spents
 
 abbrev pub backs_of : Turn → List ℕ
 backs_of t = links_of t.back
@@ -171,6 +179,8 @@ pub record Served (plans : List Plan) (link : ℕ) (entry : List ℕ) (peer : Ip
   pub looked : looks steps ≡ of_all looks_of done last
   pub picked : picks steps ≡ of_all picks_of done last
   pub refused : spents steps ≡ of_all spents_of done last
+  -- what was chosen for one request was chosen before the next one was pinned
+  pub chosen : choices steps ≡ of_all choices_of done last
   -- no two requests are sent on one link
   pub own : AreDistinct (of_all backs_of done last)
   -- no link is told of but the client's and those that these requests were sent on

@@ -103,6 +103,23 @@ stops_by (spent n) = []
 stops_by (ticked n) = []
 stops_by stopped = tt ∷ []
 
+-- what is chosen for a request: its configuration, a look, a pick, or that the draw at this node is refused
+pub data Choice : Type 0 where
+  of_plan : Plan → Choice
+  of_look : Look → Choice
+  of_pick : NodePick → Choice
+  of_refused : ℕ → Choice
+
+abbrev pub choices_by : Step → List Choice
+choices_by (happened l e) = []
+choices_by (failed l) = []
+choices_by (pinned p) = of_plan p ∷ []
+choices_by (looked l) = of_look l ∷ []
+choices_by (drew p) = of_pick p ∷ []
+choices_by (spent n) = of_refused n ∷ []
+choices_by (ticked n) = []
+choices_by stopped = []
+
 -- what happened on the link, and its faults
 abbrev pub history : ℕ → List Step → List LinkEvent
 history link = flat_map (history_by link)
@@ -129,6 +146,10 @@ spents = flat_map spents_by
 
 abbrev pub stops : List Step → List (Unit {0})
 stops = flat_map stops_by
+
+-- all that was chosen, in order
+abbrev pub choices : List Step → List Choice
+choices = flat_map choices_by
 
 -- the steps tell nothing of the link
 pub record IsNew (link : ℕ) (steps : List Step) : Type 0 where

@@ -11,7 +11,7 @@ use Rattle.link_world.specs.Seen.{Seen, Rose}
 use Rattle.link_world.specs.declared.note.EndCause.{EndCause}
 use Rattle.link_world.specs.declared.note.EndCause.TheVariants.{Client, ClientFailed, Asked, Refused, Unread, Idle, Count, Cut, CutLate, Stopped, Memory}
 use Rattle.conversation.specs.Plans.{Plan}
-use Rattle.conversation.specs.Steps.{Step, history, failures, pins, IsNew}
+use Rattle.conversation.specs.Steps.{Step, history, pins, IsNew}
 use Rattle.conversation.specs.Turns.{Turn, BackLink, IsLinkTold}
 use Rattle.conversation.specs.Served.{Served, EndHolds, IfLast, IsAnswered}
 use Rattle.conn_machine.specs.Reached.{Reached, PhaseHolds, pending_of}
@@ -209,6 +209,7 @@ served_weaker {f} {g} {link} {entry} {peer} {steps} {A} {B} {A'} {B'} grew ka kb
   looked = s.looked;
   picked = s.picked;
   refused = s.refused;
+  chosen = s.chosen;
   own = s.own;
   links = s.links;
   published = grew_all f g (pins steps) grew s.published;
