@@ -10,14 +10,16 @@ use Rattle.slab.specs.Slab.{Slab, get}
 use Rattle.link_world.specs.declared.note.Note.{Note}
 use Rattle.link_world.specs.declared.world.Arrival.{Arrival}
 use Rattle.link_world.specs.declared.world.WaitFailed.{WaitFailed}
-use Rattle.link_world.specs.Log.{Event, LinkEvent, came, waited, wait_failed, clock, asked, on, history_of, notes, note_by}
+use Rattle.link_world.specs.Log.{Event, LinkEvent, came, waited, wait_failed, clock, asked, on, only_if, history_of, notes, note_by}
 use Rattle.link_world.specs.Seen.{Seen, Came, NowDid, StopDid, WaitDid}
 use Rattle.link_world.specs.Lately.{Lately}
 use Rattle.conversation.specs.Plans.{Plan}
 use Rattle.conversation.specs.Steps.{Step, history, pins, pins_by, IsNew}
 use Rattle.conversation.specs.Turns.{Turn}
 use Rattle.conversation.specs.Served.{of_last, pin_of, notes_of}
-use Rattle.desk.specs.Desks.{Desk}
+use Rattle.link_world.specs.declared.note.Look.{Look}
+use Rattle.link_world.specs.declared.note.NodePick.{NodePick}
+use Rattle.desk.specs.Desks.{Desk, seat_at}
 use Rattle.conn_machine.specs.Parts.{Trail, TiedBy, AtStage}
 use Rattle.conn_machine.specs.Reached.{Reached, PhaseHolds, IsTold, IsFinished, ending_note, closed_by, trail_of, pending_of}
 use Rattle.conn_machine.specs.declared.parts.Client.{Client}
@@ -27,15 +29,20 @@ use Rattle.conn_machine.specs.declared.parts.Phase.TheVariants.{Open, Broken, Ov
 use Rattle.conn_machine.specs.declared.parts.Stage.{Stage}
 use Rattle.conn_machine.specs.declared.parts.Stage.TheVariants.{Head}
 use Rattle.conn_machine.specs.declared.conn.Conn.{Conn}
+use Rattle.conn_service.specs.Choices.{looks_under, picks_under}
 use Rattle.conn_service.specs.Moments.{moment, Stands}
 use Rattle.conn_service.specs.Pins.{Mark, kept, refused as turned, mark_plan, kept_by, refused_by, counted_on}
 use Rattle.conn_service.specs.Went.{Went, extended}
-use Rattle.worker_loop.specs.Accounts.{Label, taken, refused, label_plan, number_at, refused_at, pinned_on, number_of, noted_on, number_if, open_number, IsNobodys, Accounts}
+use Rattle.worker_loop.specs.Accounts.{Label, taken, refused, label_plan, number_at, refused_at, pinned_on, number_of, noted_on, number_if, open_number, Accounts}
 use Rattle.worker_loop.specs.Runs.{AttendsBy, JustCame}
+use Rattle.worker_loop.specs.Chosen.{IsNobodys, looks_in, picks_in, looks_noted, picks_noted, open_looks, open_picks, list_if}
+use Rattle.worker_loop.specs.Spent.{IsFollowed}
 use Rattle.worker_loop.proofs.Lists.{extended_twice, extended_none, history-append, steps-append}
 use Rattle.worker_loop.proofs.Frames.{client_told, no_more_told}
 use Rattle.worker_loop.proofs.Servings.{Others}
 use Rattle.worker_loop.proofs.Comings.{first_steps, came_mute}
+use Rattle.worker_loop.proofs.Refusals.{followed_later, followed_went, noted_stand, quiet_stand, followed_came, came_later}
+use Rattle.worker_loop.proofs.Sharings.{shared_open, shared_over, shared_quiet, shared_kept, shared_none, shared_join, said_quiet, shares_looks, shares_picks, Shares}
 use Rattle.std.specs.declared.alloc.AllocError.{AllocError}
 
 abbrev numbers : List Plan → List ℕ
@@ -140,6 +147,10 @@ accounts_none now desk conns none = record {
   open_ones = λ k c gc. absurd (let e = none k in let f : ⊥ = cc in f);
   others = λ link nobody. refl;
   counted = refl;
+  looks = λ n. shared_none (seat_at desk n).looks (looks_noted n []) (open_looks n) conns none (λ l. refl);
+  picks = λ n. shared_none (seat_at desk n).picks (picks_noted n []) (open_picks n) conns none (λ l. refl);
+  stand = λ link. tt;
+  followed = λ k c gc. absurd (let e = none k in let f : ⊥ = cc in f);
 }
 
 -- what an account needs of a call for one connection
@@ -183,7 +194,7 @@ own_account {S} {base} {now} {new} {l} {m} {from} {f} {g} {c} {d} {conns} {steps
     ∙ ap (λ (ns : List ℕ). ns ++ open_number d) (sym (noted_on-append link a.ran w.ran))
 
 -- two keys have two client links
-links_apart : {now : Seen} {f : List Plan} {steps : ℕ → List Step} {conns : Slab Conn} (k j : ℕ) (c x : Conn) → AttendsBy now f steps conns → get conns k ≡ Some c → get conns j ≡ Some x → k ≢ j → x.client.link ≢ c.client.link
+pub links_apart : {now : Seen} {f : List Plan} {steps : ℕ → List Step} {conns : Slab Conn} (k j : ℕ) (c x : Conn) → AttendsBy now f steps conns → get conns k ≡ Some c → get conns j ≡ Some x → k ≢ j → x.client.link ≢ c.client.link
 links_apart {now} {f} {steps} {conns} k j c x at gc gx ne same =
     let mine = at.tracks k c gc in
     let theirs = at.tracks j x gx in
@@ -220,6 +231,18 @@ accounts_open {S} {base} {now} {new} {l} {m} {from} {f} {g} {c} {d} {steps} conn
           ])
           ∙ sym (more.noted_other link apart);
       counted = more.counted;
+      looks = λ n. shared_open (seat_at from n).looks (seat_at f n).looks (seat_at g n).looks (looks_noted n a.ran) (looks_noted n (a.ran ++ w.ran)) (open_looks n) (looks_under n c.current.number w.did) c d conns conns' key gc gd others w.conn.client (λ k x gx ne. links_apart key k c x at gc gx (λ e. ne (sym e)))
+          (shares_looks n a.ran w (a.followed key c gc) t.untold none_d) (a.looks n);
+      picks = λ n. shared_open (seat_at from n).picks (seat_at f n).picks (seat_at g n).picks (picks_noted n a.ran) (picks_noted n (a.ran ++ w.ran)) (open_picks n) (picks_under n c.current.number w.did) c d conns conns' key gc gd others w.conn.client (λ k x gx ne. links_apart key k c x at gc gx (λ e. ne (sym e)))
+          (shares_picks n a.ran w (a.followed key c gc) t.untold none_d) (a.picks n);
+      stand = λ link. noted_stand w (a.followed key c gc) a.ran link (a.stand link);
+      followed = λ k x gx. elim (cases_eq k key) [
+        | inl same ↦
+            let here : get conns' key ≡ Some x = ap (get conns') (sym same) ∙ gx in
+            let is : d ≡ x = cc in
+            subst (λ (z : Conn). IsFollowed new g z) is (followed_went w (a.followed key c gc))
+        | inr ne ↦ followed_later now new f g x w.world.come w.desk.counts (a.followed k x (sym (others k ne) ∙ gx))
+      ];
     }
 
 -- the connection ended
@@ -227,6 +250,7 @@ pub accounts_over : {S : Type 0} {base now new : Seen} {l m : Lately} {from f g 
 accounts_over {S} {base} {now} {new} {l} {m} {from} {f} {g} {c} {d} {steps} conns conns' key at gc w finished gone others a =
     let more = adds_went a w in
     let t = at.tracks key c gc in
+    let unpinned : d.current.pinned ≡ false = over_unpinned d (w.conn.reached (steps key) t.stands) finished.1 in
     record {
       ran = a.ran ++ w.ran;
       log = more.log;
@@ -252,6 +276,17 @@ accounts_over {S} {base} {now} {new} {l} {m} {from} {f} {g} {c} {d} {steps} conn
             ∙ sym (more.noted_other link apart)
       ];
       counted = more.counted;
+      looks = λ n. shared_over (seat_at from n).looks (seat_at f n).looks (seat_at g n).looks (looks_noted n a.ran) (looks_noted n (a.ran ++ w.ran)) (open_looks n) (looks_under n c.current.number w.did) c conns conns' key gc gone others (λ k x gx ne. links_apart key k c x at gc gx (λ e. ne (sym e)))
+          (subst (λ (xs : List Look). Shares Look (seat_at f n).looks (seat_at g n).looks (looks_noted n a.ran) (looks_noted n (a.ran ++ w.ran)) c.client.link (open_looks n c) xs (looks_under n c.current.number w.did)) (ap (λ (b : Bool). list_if b (only_if (n == d.current.number) d.looks.items)) unpinned)
+          (shares_looks n a.ran w (a.followed key c gc) t.untold finished.0)) (a.looks n);
+      picks = λ n. shared_over (seat_at from n).picks (seat_at f n).picks (seat_at g n).picks (picks_noted n a.ran) (picks_noted n (a.ran ++ w.ran)) (open_picks n) (picks_under n c.current.number w.did) c conns conns' key gc gone others (λ k x gx ne. links_apart key k c x at gc gx (λ e. ne (sym e)))
+          (subst (λ (xs : List NodePick). Shares NodePick (seat_at f n).picks (seat_at g n).picks (picks_noted n a.ran) (picks_noted n (a.ran ++ w.ran)) c.client.link (open_picks n c) xs (picks_under n c.current.number w.did)) (ap (λ (b : Bool). list_if b (only_if (n == d.current.number) d.picks.items)) unpinned)
+          (shares_picks n a.ran w (a.followed key c gc) t.untold finished.0)) (a.picks n);
+      stand = λ link. noted_stand w (a.followed key c gc) a.ran link (a.stand link);
+      followed = λ k x gx. elim (cases_eq k key) [
+        | inl same ↦ absurd (let here : get conns' key ≡ Some x = ap (get conns') (sym same) ∙ gx in let f : ⊥ = cc in f)
+        | inr ne ↦ followed_later now new f g x w.world.come w.desk.counts (a.followed k x (sym (others k ne) ∙ gx))
+      ];
     }
   where
     told_open : (p : Phase) (steps : List Step) (x : Conn) (done : List Turn) (last : Option Turn) (rest left : List ℕ) (next : ℕ) → IsTold p → PhaseHolds p steps x done last rest left next → x.current.pinned ≡ false
@@ -260,12 +295,15 @@ accounts_over {S} {base} {now} {new} {l} {m} {from} {f} {g} {c} {d} {steps} conn
     told_open (Over cause) steps x done last rest left next told h = absurd told
     told_open (Told cause) steps x done last rest left next told h = h.0
 
+    over_unpinned : (x : Conn) {steps : List Step} → Reached steps x → IsTold x.phase → x.current.pinned ≡ false
+    over_unpinned x {steps} r told = told_open x.phase steps x r.done r.last r.rest r.left r.kept.next told r.phase
+
     over_number : (x : Conn) {steps : List Step} → Reached steps x → IsTold x.phase → open_number x ≡ []
-    over_number x {steps} r told = ap (λ (b : Bool). number_if b x.current.number) (told_open x.phase steps x r.done r.last r.rest r.left r.kept.next told r.phase)
+    over_number x {steps} r told = ap (λ (b : Bool). number_if b x.current.number) (over_unpinned x r told)
 
 -- what happened was no note
-pub accounts_quiet : {base now new : Seen} {from f : Desk} {conns : Slab Conn} (ran : List Event) → new.log ≡ extended now.log ran → ((l : ℕ) → notes (history_of l ran) ≡ []) → Accounts base now from f conns → Accounts base new from f conns
-accounts_quiet {base} {now} {new} {from} {f} {conns} ran log mute a = record {
+pub accounts_quiet : {base now new : Seen} {from f : Desk} {conns : Slab Conn} (ran : List Event) → new.log ≡ extended now.log ran → ((l : ℕ) → notes (history_of l ran) ≡ []) → ((l : ℕ) → now.come l ≡ true → new.come l ≡ true) → Accounts base now from f conns → Accounts base new from f conns
+accounts_quiet {base} {now} {new} {from} {f} {conns} ran log mute come a = record {
   ran = a.ran ++ ran;
   log = log ∙ ap (λ (o : Option (List Event)). extended o ran) a.log ∙ extended_twice base.log a.ran ran;
   labels = a.labels;
@@ -273,6 +311,10 @@ accounts_quiet {base} {now} {new} {from} {f} {conns} ran log mute a = record {
   open_ones = λ k c gc. a.open_ones k c gc ∙ ap (λ (ns : List ℕ). ns ++ open_number c) (sym (still c.client.link));
   others = λ link nobody. a.others link nobody ∙ sym (still link);
   counted = a.counted;
+  looks = λ n. shared_quiet (seat_at from n).looks (seat_at f n).looks (looks_noted n a.ran) (looks_noted n (a.ran ++ ran)) (open_looks n) conns (λ l. said_quiet (looks_in n) l a.ran ran (mute l)) (a.looks n);
+  picks = λ n. shared_quiet (seat_at from n).picks (seat_at f n).picks (picks_noted n a.ran) (picks_noted n (a.ran ++ ran)) (open_picks n) conns (λ l. said_quiet (picks_in n) l a.ran ran (mute l)) (a.picks n);
+  stand = λ link. quiet_stand f a.ran ran link (mute link) (a.stand link);
+  followed = λ k c gc. followed_later now new f f c come (λ n node. omega arith) (a.followed k c gc);
 }
   where
     still : (l : ℕ) → noted_on l (a.ran ++ ran) ≡ noted_on l a.ran
@@ -283,10 +325,10 @@ accounts_same {base} {now} {new} {from} {f} {conns} is a = subst (λ (s : Seen).
 
 pub accounts_clock : {base now new : Seen} {from f : Desk} {conns : Slab Conn} (n : ℕ) → NowDid now n new → Accounts base now from f conns → Accounts base new from f conns
 accounts_clock n (inl did) a = accounts_same did.1 a
-accounts_clock n (inr did) a = accounts_quiet (clock n ∷ []) (ap (λ (s : Seen). s.log) did.1) (λ l. refl) a
+accounts_clock n (inr did) a = accounts_quiet (clock n ∷ []) (ap (λ (s : Seen). s.log) did.1) (λ l. refl) (λ l is. ap (λ (s : Seen). s.come l) did.1 ∙ is) a
 
 pub accounts_kept : {base now : Seen} {from f : Desk} (conns conns' : Slab Conn) → ((k : ℕ) → get conns' k ≡ get conns k) → Accounts base now from f conns → Accounts base now from f conns'
-accounts_kept conns conns' same a = record {
+accounts_kept {base} {now} {from} {f} conns conns' same a = record {
   ran = a.ran;
   log = a.log;
   labels = a.labels;
@@ -294,11 +336,15 @@ accounts_kept conns conns' same a = record {
   open_ones = λ k c gc. a.open_ones k c (sym (same k) ∙ gc);
   others = λ link nobody. a.others link (λ k c gc. nobody k c (same k ∙ gc));
   counted = a.counted;
+  looks = λ n. shared_kept (seat_at from n).looks (seat_at f n).looks (looks_noted n a.ran) (open_looks n) conns conns' same (a.looks n);
+  picks = λ n. shared_kept (seat_at from n).picks (seat_at f n).picks (picks_noted n a.ran) (open_picks n) conns conns' same (a.picks n);
+  stand = a.stand;
+  followed = λ k c gc. a.followed k c (sym (same k) ∙ gc);
 }
 
 -- a connection comes to a key
-accounts_join : {base now : Seen} {from f : Desk} (conns conns' : Slab Conn) (key : ℕ) (d : Conn) → IsNobodys d.client.link conns → d.current.pinned ≡ false → get conns key ≡ None → get conns' key ≡ Some d → Others conns conns' key → Accounts base now from f conns → Accounts base now from f conns'
-accounts_join conns conns' key d strange unpinned vacant gd others a = record {
+accounts_join : {base now : Seen} {from f : Desk} (conns conns' : Slab Conn) (key : ℕ) (d : Conn) → IsNobodys d.client.link conns → d.current.pinned ≡ false → IsFollowed now f d → get conns key ≡ None → get conns' key ≡ Some d → Others conns conns' key → Accounts base now from f conns → Accounts base now from f conns'
+accounts_join {base} {now} {from} {f} conns conns' key d strange unpinned first vacant gd others a = record {
   ran = a.ran;
   log = a.log;
   labels = a.labels;
@@ -316,6 +362,16 @@ accounts_join conns conns' key d strange unpinned vacant gd others a = record {
     | inr ne ↦ nobody k x (others k ne ∙ gx)
   ]);
   counted = a.counted;
+  looks = λ n. shared_join (seat_at from n).looks (seat_at f n).looks (looks_noted n a.ran) (open_looks n) conns conns' key d strange (ap (λ (b : Bool). list_if b (only_if (n == d.current.number) d.looks.items)) unpinned) vacant gd others (a.looks n);
+  picks = λ n. shared_join (seat_at from n).picks (seat_at f n).picks (picks_noted n a.ran) (open_picks n) conns conns' key d strange (ap (λ (b : Bool). list_if b (only_if (n == d.current.number) d.picks.items)) unpinned) vacant gd others (a.picks n);
+  stand = a.stand;
+  followed = λ k x gx. elim (cases_eq k key) [
+    | inl same ↦
+        let here : get conns' key ≡ Some x = ap (get conns') (sym same) ∙ gx in
+        let is : d ≡ x = cc in
+        subst (λ (z : Conn). IsFollowed now f z) is first
+    | inr ne ↦ a.followed k x (sym (others k ne) ∙ gx)
+  ];
 }
 
 unpinned_first : {a : Arrival} {d : Conn} → JustCame a d → d.current.pinned ≡ false
@@ -328,8 +384,8 @@ unpinned_first {a} {d} began =
 -- a client came
 pub accounts_accept : {base now new : Seen} {from f : Desk} {g : List Plan} {steps : ℕ → List Step} (a : Arrival) (d : Conn) (conns conns' : Slab Conn) (key : ℕ) → AttendsBy now g steps conns → Came now a.link (came a.entry a.peer) new → JustCame a d → get conns key ≡ None → get conns' key ≡ Some d → Others conns conns' key → Accounts base now from f conns → Accounts base new from f conns'
 accounts_accept {base} {now} {new} {from} {f} {g} {steps} a d conns conns' key at arrival began vacant gd others acc =
-    accounts_join conns conns' key d strange (unpinned_first began) vacant gd others
-    (accounts_quiet (on a.link now.now (came a.entry a.peer) ∷ []) (ap (λ (s : Seen). s.log) arrival.same) (λ l. came_mute l a.link now.now a.entry a.peer) acc)
+    accounts_join conns conns' key d strange (unpinned_first began) (followed_came now new f a d arrival began) vacant gd others
+    (accounts_quiet (on a.link now.now (came a.entry a.peer) ∷ []) (ap (λ (s : Seen). s.log) arrival.same) (λ l. came_mute l a.link now.now a.entry a.peer) (came_later now new a arrival) acc)
   where
     strange : IsNobodys d.client.link conns
     strange k x gx same = let t = at.tracks k x gx in let come = t.ready.linked.come in let at_link = began.link in let not = arrival.not_come in let e : now.come x.client.link ≡ now.come a.link = ap now.come (same ∙ at_link) in let f : ⊥ = cc in f
@@ -339,13 +395,13 @@ on_ok (Ok x) is h = h
 on_ok (Err e) is h = absurd (let f : ⊥ = cc in f)
 
 pub accounts_wait : {base now new : Seen} {from f : Desk} {conns : Slab Conn} (until : ℕ) → WaitDid now until (Ok tt) new → Accounts base now from f conns → Accounts base new from f conns
-accounts_wait until is a = accounts_quiet (waited until ∷ []) (ap (λ (s : Seen). s.log) is) (λ l. refl) a
+accounts_wait until is a = accounts_quiet (waited until ∷ []) (ap (λ (s : Seen). s.log) is) (λ l. refl) (λ l come. ap (λ (s : Seen). s.come l) is ∙ come) a
 
 pub accounts_failed : {base now new : Seen} {from f : Desk} {conns : Slab Conn} (until : ℕ) (e : WaitFailed) → WaitDid now until (Err e) new → Accounts base now from f conns → Accounts base new from f conns
-accounts_failed until e (n, more, is) a = accounts_quiet (wait_failed until ∷ []) (ap (λ (s : Seen). s.log) is) (λ l. refl) a
+accounts_failed until e (n, more, is) a = accounts_quiet (wait_failed until ∷ []) (ap (λ (s : Seen). s.log) is) (λ l. refl) (λ l come. ap (λ (s : Seen). s.come l) is ∙ come) a
 
 pub accounts_stop : {base now new : Seen} {from f : Desk} {conns : Slab Conn} → StopDid now true new → Accounts base now from f conns → Accounts base new from f conns
-accounts_stop (n, more, is) a = accounts_quiet (asked true ∷ []) (ap (λ (s : Seen). s.log) is) (λ l. refl) a
+accounts_stop (n, more, is) a = accounts_quiet (asked true ∷ []) (ap (λ (s : Seen). s.log) is) (λ l. refl) (λ l come. ap (λ (s : Seen). s.come l) is ∙ come) a
 
 pub accounts_unasked : {base now new : Seen} {from f : Desk} {conns : Slab Conn} → StopDid now false new → Accounts base now from f conns → Accounts base new from f conns
-accounts_unasked is a = accounts_quiet (asked false ∷ []) (ap (λ (s : Seen). s.log) is) (λ l. refl) a
+accounts_unasked is a = accounts_quiet (asked false ∷ []) (ap (λ (s : Seen). s.log) is) (λ l. refl) (λ l come. ap (λ (s : Seen). s.come l) is ∙ come) a

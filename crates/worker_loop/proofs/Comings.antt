@@ -26,13 +26,13 @@ use Rattle.conn_service.specs.Moments.{Stands, IsElse, IsExchanging, moment}
 use Rattle.conn_service.specs.Went.{Went, Lost, extended}
 use Rattle.conn_service.specs.Calm.{Calm}
 use Rattle.conn_service.proofs.Calms.{calm_kept}
-use Rattle.worker_loop.specs.Owned.{TellsAll, Shows, HaveCome, Tracks, put}
+use Rattle.worker_loop.specs.Owned.{Shows, HaveCome, Tracks, put}
 use Rattle.worker_loop.specs.Runs.{AttendsBy, Runs, Stopping, JustCame, Unasked}
 use Rattle.worker_loop.specs.Settled.{SettledUnder, AllSettled, SameTurn, TurnDone, EndsOnly, NoneStopped, StoppedAfter}
 use Rattle.worker_loop.specs.Met.{Meets, IsClient}
 use Rattle.worker_loop.specs.Rounds.{Parted}
 use Rattle.conn_service.specs.Arrivals.{arrivals, arrival_by}
-use Rattle.worker_loop.proofs.Lists.{contains_none, extended_twice, extended_none, told_step, told_all, history-append, failures-append, grew_none}
+use Rattle.worker_loop.proofs.Lists.{contains_none, extended_twice, told_step, told_all, history-append, failures-append, grew_none}
 use Rattle.worker_loop.proofs.Frames.{IsBlank, blank_fresh, put_same, put_other, Passed, client_told, back_told, has_come, no_more_told, rose_after}
 use Rattle.worker_loop.specs.Named.{links_by, named_by, named, NamesApart}
 use Rattle.worker_loop.proofs.Distincts.{named_mute}
@@ -66,7 +66,7 @@ came_passed {now} {new} {link} {e} mine a = record {
 abbrev pub first_steps : Arrival → List Step
 first_steps a = happened a.link (came a.entry a.peer) ∷ []
 
-first_new : (a : Arrival) (l : ℕ) → l ≢ a.link → IsNew l (first_steps a)
+pub first_new : (a : Arrival) (l : ℕ) → l ≢ a.link → IsNew l (first_steps a)
 first_new a l ne = record { quiet = rw (other_link ne) refl; sound = refl }
 
 first_shows : {now new : Seen} (a : Arrival) → Came now a.link (came a.entry a.peer) new → IfSome new.log (Shows (first_steps a))

@@ -4,9 +4,13 @@ pub mod Ownings
 pub mod Distincts
 pub mod Servings
 pub mod Comings
+pub mod Choosings
+pub mod Refusals
+pub mod Sharings
 pub mod Accountings
 pub mod Places
 pub mod Meetings
 pub mod Stops
+pub mod Losses
 pub mod Completions
 pub mod Roundings

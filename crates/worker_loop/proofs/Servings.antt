@@ -14,7 +14,7 @@ use Rattle.link_world.specs.Log.{Event, LinkEvent, IsFresh, history_of, failures
 use Rattle.link_world.specs.Seen.{Seen}
 use Rattle.link_world.specs.Lately.{Lately}
 use Rattle.conversation.specs.Plans.{Plan}
-use Rattle.conversation.specs.Steps.{Step, history, failures, failures_by, pins, pins_by, stops, stops_by, IsNew}
+use Rattle.conversation.specs.Steps.{Step, history, failures, pins, pins_by, stops, stops_by, IsNew}
 use Rattle.conversation.specs.Served.{Served, end_note}
 use Rattle.conn_machine.specs.Reached.{Reached, IsUnended, IsRequestNote, IsFinished}
 use Rattle.conn_machine.specs.declared.conn.Conn.{Conn}

@@ -115,7 +115,7 @@ pub stopless_unasked : (now new : Seen) → StopDid now false new → NoneStoppe
 stopless_unasked now new is = stopless_mute now new (asked false ∷ []) (ap (λ (s : Seen). s.log) is) (λ l. refl)
 
 -- an end that was noted while a connection was served is told by its steps
-told_late : {S : Type 0} {now new : Seen} {f g gs : List Plan} {c d : Conn} {steps : List Step} → Tracks now gs steps c → (w : Moved S now new f g c d) → (link : ℕ) (cause : EndCause) → Contains (notes (history_of link w.ran)) (end_note link cause)
+pub told_late : {S : Type 0} {now new : Seen} {f g gs : List Plan} {c d : Conn} {steps : List Step} → Tracks now gs steps c → (w : Moved S now new f g c d) → (link : ℕ) (cause : EndCause) → Contains (notes (history_of link w.ran)) (end_note link cause)
     → Contains (notes (history d.client.link (steps ++ w.did))) (end_note d.client.link cause)
 told_late {c = c} {d = d} {steps = steps} t w link cause has = elim (cases_eq link c.client.link) [
   | inr ne ↦ absurd (contains_none (end_note link cause) (subst (λ (ns : List Note). Contains ns (end_note link cause)) (ap notes (sym (w.shows link)) ∙ w.noted link ne) has))

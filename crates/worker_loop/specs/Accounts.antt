@@ -1,6 +1,6 @@
 -- Whose each pin of a shared desk is.
-use Rattle.std.specs.Prelude.{◌≡◌, ◌≢◌, ℕ, ◌==◌, Bool, true, false, List, [], ◌∷◌, ◌++◌, map, length, Some}
-use Rattle.std.specs.List.{flat_map}
+use Rattle.std.specs.Prelude.{◌≡◌, ℕ, ◌==◌, Bool, true, false, List, [], ◌∷◌, ◌++◌, map, length, Some}
+use Rattle.std.specs.List.{flat_map, AllByRecursion}
 use Rattle.slab.specs.Slab.{Slab, get}
 use Rattle.link_world.specs.declared.note.Note.{Note}
 use Rattle.link_world.specs.declared.note.NoteBody.{NoteBody}
@@ -8,10 +8,14 @@ use Rattle.link_world.specs.declared.note.NoteBody.TheVariants as body
 use Rattle.link_world.specs.Log.{Event, only_if, history_of, notes}
 use Rattle.link_world.specs.Seen.{Seen}
 use Rattle.conversation.specs.Plans.{Plan}
-use Rattle.desk.specs.Desks.{Desk}
+use Rattle.link_world.specs.declared.note.Look.{Look}
+use Rattle.link_world.specs.declared.note.NodePick.{NodePick}
+use Rattle.desk.specs.Desks.{Desk, seat_at}
 use Rattle.conn_machine.specs.declared.conn.Conn.{Conn}
 use Rattle.conn_service.specs.Pins.{counted_on}
 use Rattle.conn_service.specs.Went.{extended}
+use Rattle.worker_loop.specs.Chosen.{IsNobodys, IsShared, looks_noted, picks_noted, open_looks, open_picks}
+use Rattle.worker_loop.specs.Spent.{NoteStands, IsFollowed}
 
 -- a pin for a request of the client on this link, or one that was refused
 pub data Label : Type 0 where
@@ -53,12 +57,9 @@ number_if false number = []
 abbrev pub open_number : Conn → List ℕ
 open_number c = number_if c.current.pinned c.current.number
 
--- no open connection has this client link
-abbrev pub IsNobodys : ℕ → Slab Conn → Type 0
-IsNobodys link conns = (k : ℕ) (c : Conn) → get conns k ≡ Some c → c.client.link ≢ link
-
 -- Each pin of the desk since then is one for a request that was noted since then, or for an open connection's request
--- that isn't noted yet, each once and in order on each client link; or it was refused, and is counted.
+-- that isn't noted yet, each once and in order on each client link; or it was refused, and is counted. So are the looks and
+-- the picks under each number. A draw was refused only where the desk's count says so.
 pub record Accounts (base now : Seen) (from to : Desk) (conns : Slab Conn) : Type 0 where
   pub ran : List Event
   pub log : now.log ≡ extended base.log ran
@@ -67,3 +68,7 @@ pub record Accounts (base now : Seen) (from to : Desk) (conns : Slab Conn) : Typ
   pub open_ones : (k : ℕ) (c : Conn) → get conns k ≡ Some c → pinned_on c.client.link labels ≡ noted_on c.client.link ran ++ open_number c
   pub others : (link : ℕ) → IsNobodys link conns → pinned_on link labels ≡ noted_on link ran
   pub counted : counted_on to.refused 0 ≡ counted_on from.refused (length (flat_map refused_at labels))
+  pub looks : (n : ℕ) → IsShared Look (seat_at from n).looks (seat_at to n).looks (looks_noted n ran) (open_looks n) conns
+  pub picks : (n : ℕ) → IsShared NodePick (seat_at from n).picks (seat_at to n).picks (picks_noted n ran) (open_picks n) conns
+  pub stand : (link : ℕ) → AllByRecursion (NoteStands to) (notes (history_of link ran))
+  pub followed : (k : ℕ) (c : Conn) → get conns k ≡ Some c → IsFollowed now to c

@@ -1,6 +1,8 @@
 pub mod Owned
 pub mod Runs
 pub mod Settled
+pub mod Chosen
+pub mod Spent
 pub mod Accounts
 pub mod Named
 pub mod Met

@@ -36,6 +36,16 @@ pub record EndsOnly (old new : Seen) (conns : Slab Conn) : Type 0 where
   pub notes_on : (link : ℕ) → IsSomebodys link conns ⊎ (notes (history_of link ran) ≡ [])
   pub causes : (link : ℕ) (cause : EndCause) → Contains (notes (history_of link ran)) (end_note link cause) → cause ≡ Stopped
 
+-- since then no end was noted on the link
+pub record IsUnnoted (old new : Seen) (link : ℕ) : Type 0 where
+  pub ran : List Event
+  pub log : new.log ≡ extended old.log ran
+  pub none : (cause : EndCause) → Contains (notes (history_of link ran)) (end_note link cause) → ⊥
+
+-- one of these connections was lost: its end wasn't noted since then
+abbrev pub IsOneLost : Seen → Seen → Slab Conn → Type 0
+IsOneLost old new conns = (k : ℕ) × (c : Conn) × (get conns k ≡ Some c) × IsUnnoted old new c.client.link
+
 -- since then no connection was ended for a stop
 pub record NoneStopped (old new : Seen) : Type 0 where
   pub ran : List Event

@@ -1,5 +1,5 @@
 // A worker's connections, by their keys in its slab.
-ghost use Rattle.std.specs.Prelude.{◌≡◌, ◌≢◌, ◌≤◌, ℕ, List, OnOk, IfOk, IsOk, None, true, is_some};
+ghost use Rattle.std.specs.Prelude.{◌≡◌, ◌≢◌, ◌≤◌, ℕ, List, OnOk, OnErr, IfOk, IsOk, IsErr, None, Some, true, false, is_some};
 ghost use Rattle.link_world.specs.Seen.{Seen};
 ghost use Rattle.conversation.specs.Plans.{Plan};
 ghost use Rattle.desk.specs.Desks.{Grew};
@@ -10,7 +10,7 @@ ghost use Rattle.worker_loop.specs.Runs.{Attends, Attended, Runs, Stopping, IsSt
 ghost use Rattle.desk.specs.Desks.{Desk};
 ghost use Rattle.worker_loop.specs.Accounts.{Accounts};
 ghost use Rattle.worker_loop.specs.Rounds.{Worked, Parted};
-ghost use Rattle.worker_loop.specs.Settled.{SettledUnder, SameTurn, EndsOnly};
+ghost use Rattle.worker_loop.specs.Settled.{SettledUnder, SameTurn, EndsOnly, IsUnnoted, IsOneLost};
 
 use crate::worker::Worker;
 use conn_service::{quit, serve, stop};
@@ -81,6 +81,8 @@ impl Worker {
         ensures unasked { Unasked (W.seen world.old) (W.seen world.new) }
         ensures ends { EndsOnly (W.seen world.old) (W.seen world.new) self.old.conns }
         ensures parted { Parted (W.seen world.old) (W.seen world.new) }
+        ensures lost { OnErr result ((c : Conn) × (get self.old.conns key ≡ Some c) × IsUnnoted (W.seen world.old) (W.seen world.new) c.client.link) }
+        ensures alone { (k : ℕ) (c : Conn) → k ≢ key → get self.old.conns k ≡ Some c → IsUnnoted (W.seen world.old) (W.seen world.new) c.client.link }
         ensures gone { get self.new.conns key ≡ None }
         ensures others { (k : ℕ) → k ≢ key → get self.new.conns k ≡ get self.old.conns k }
         ensures accounts { (base : Seen) (from to : Desk) → OnOk result (Accounts base (W.seen world.old) from to self.old.conns
@@ -97,7 +99,8 @@ impl Worker {
         Ok(())
     }
 
-    /// Ends all connections, each whatever became of the others. Answers whether each note found room.
+    /// Ends all connections, each whatever became of the others. Answers whether each note found room; where one didn't, the
+    /// end of a connection isn't noted.
     pub(crate) fn stop_all<W: World>(&mut self, alloc: Global, world: &mut W) -> bool
         requires { IsStopping (W.seen world.old) self.old.conns }
         ensures runs { (first : Slab Conn) (base : Seen) (g : List Plan) → Stopping base (W.seen world.old)
@@ -105,6 +108,7 @@ impl Worker {
         ensures unasked { Unasked (W.seen world.old) (W.seen world.new) }
         ensures ends { EndsOnly (W.seen world.old) (W.seen world.new) self.old.conns }
         ensures parted { Parted (W.seen world.old) (W.seen world.new) }
+        ensures lost { result ≡ false → IsOneLost (W.seen world.old) (W.seen world.new) self.old.conns }
         ensures ended { (k : ℕ) → get self.new.conns k ≡ None }
         ensures accounts { (base : Seen) (from to : Desk) → result ≡ true → Accounts base (W.seen world.old) from to self.old.conns
             → Accounts base (W.seen world.new) from to self.new.conns }
@@ -159,6 +163,7 @@ impl Worker {
 fn are_told(told: Result<(), Memory>, all: bool) -> bool
     ensures told { result ≡ true → IsOk told }
     ensures all { result ≡ true → all ≡ true }
+    ensures lost { result ≡ false → all ≡ true → IsErr told }
 {
     told.is_ok() && all
 }

@@ -2,7 +2,7 @@
 ghost use Rattle.std.specs.Prelude.{◌≡◌, ◌≢◌, ◌⊎◌, ◌<◌, ◌++◌, ℕ, List, IfSome, None};
 ghost use Rattle.slab.specs.Slab.{Slab, get};
 ghost use Rattle.conn_machine.specs.declared.conn.Conn.{Conn};
-ghost use Rattle.worker_loop.specs.Settled.{EndsOnly, StoppedAfter};
+ghost use Rattle.worker_loop.specs.Settled.{EndsOnly, StoppedAfter, IsOneLost};
 ghost use Rattle.worker_loop.specs.Complete.{AllComplete};
 ghost use Rattle.desk.specs.Desks.{Desk, Grew};
 ghost use Rattle.worker_loop.specs.Accounts.{Accounts};
@@ -69,7 +69,8 @@ pub fn run_worker<R: Wait, W: World, S: Shared>(
     // No connection is open any more.
     ensures ended { (k : ℕ) → get worker.new.conns k ≡ None }
 
-    // Each pin of the desk since the worker first used it is accounted for.
+    // Each pin of the desk since the worker first used it is accounted for, and so is each look and each pick under each
+    // number. A draw was refused only where the desk's count says so.
     ensures accounts { (base : Seen) (from : Desk) → result ≢ WorkerEnd.Memory
         → Accounts base (W.seen world.old) from (S.desk shared.old) worker.old.conns
         → Accounts base (W.seen world.new) from (S.desk shared.new) worker.new.conns }
@@ -90,6 +91,11 @@ pub fn run_worker<R: Wait, W: World, S: Shared>(
     ensures settled { (result ≡ WorkerEnd.Stopped) ⊎ ((W.seen world.old).stops < (W.seen world.new).stops) → (at : W) × (conns : Slab Conn)
         × StoppedAfter worker.old.conns (W.seen world.old) (W.seen at) (W.lately at) (W.seen world.new) (S.desk shared.new).generations conns worker.old.links
         × AllComplete (W.seen world.old) (W.seen at) (W.lately at) (W.seen world.new) }
+
+    // Where a stop was counted and the answer is `Memory` still, a note found no memory: of the connections that were open
+    // when the stop was asked for, the end of one wasn't noted.
+    ensures lost { result ≡ WorkerEnd.Memory → (W.seen world.old).stops < (W.seen world.new).stops → (at : Seen) × (conns : Slab Conn)
+        × Runs worker.old.conns (W.seen world.old) at (S.desk shared.new).generations conns × IsOneLost at (W.seen world.new) conns }
     ensures unasked { result ≡ WorkerEnd.WorldFault → (W.seen world.new).stops ≡ (W.seen world.old).stops }
     ensures fault { result ≡ WorkerEnd.WorldFault → Rose (W.seen world.old).waits_failed (W.seen world.new).waits_failed }
 {
@@ -117,6 +123,7 @@ fn finish<W: World>(alloc: Global, worker: &mut Worker, world: &mut W, end: Work
     ensures unasked { Unasked (W.seen world.old) (W.seen world.new) }
     ensures ends { EndsOnly (W.seen world.old) (W.seen world.new) worker.old.conns }
     ensures parted { Parted (W.seen world.old) (W.seen world.new) }
+    ensures lost { end ≢ WorkerEnd.Memory → result ≡ WorkerEnd.Memory → IsOneLost (W.seen world.old) (W.seen world.new) worker.old.conns }
     ensures ended { (k : ℕ) → get worker.new.conns k ≡ None }
     ensures accounts { (base : Seen) (from to : Desk) → result ≢ WorkerEnd.Memory → Accounts base (W.seen world.old) from to worker.old.conns
         → Accounts base (W.seen world.new) from to worker.new.conns }

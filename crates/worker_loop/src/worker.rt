@@ -81,7 +81,8 @@ impl Worker {
         // No more clients are served at a time than may be.
         ensures most { slab_len self.old.conns ≤ self.old.links → slab_len self.new.conns ≤ self.new.links }
 
-        // Each pin of the desk since the worker first used it is accounted for.
+        // Each pin of the desk since the worker first used it is accounted for, and so is each look and each pick under each
+        // number. A draw was refused only where the desk's count says so.
         ensures accounts { (base : Seen) (from : Desk) → OnOk result (Accounts base (W.seen world.old) from (S.desk shared.old) self.old.conns
             → Accounts base (W.seen world.new) from (S.desk shared.new) self.new.conns) }
 

@@ -1,5 +1,4 @@
-use Rattle.std.proofs.Common.{ℕ, sym, ◌∙◌, refl, subst, ap}
-use Rattle.link_world.specs.Seen.{Seen}
+use Rattle.std.proofs.Common.{ℕ, sym, ◌∙◌, refl, subst, inr}
 use Rattle.conn_service.proofs.Lists.{grew_none, grew_twice}
 use Rattle.worker_loop.specs.Settled.{TurnDone}
 use Rattle.worker_loop.specs.Rounds.{no_deadline}
@@ -186,3 +185,15 @@ returns-then-stop_asked-clause-grew g c = grew_twice _ _ _ c.loop.invariant.6 c.
 
 pub returns-in-Err-clause-grew : goal.returns-in-Err-clause-grew
 returns-in-Err-clause-grew g c = grew_twice _ _ _ c.loop.invariant.6 c.turn.ensures.grew
+
+pub returns-in_default-clause-lost : goal.returns-in_default-clause-lost
+returns-in_default-clause-lost g c = λ is more. absurd (not_asked Memory (g.W.World.seen c.args.world.now).stops (g.W.World.seen c.quit_all.new.world).stops (λ e. cc) (c.quit_all.ensures.stops ∙ c.turn.ensures.stops ∙ c.loop.invariant.3) (inr more))
+
+pub returns-then-stop_asked-clause-lost : goal.returns-then-stop_asked-clause-lost
+returns-then-stop_asked-clause-lost g c = λ is more.
+    let s = step_stop c.if-stop_asked.ensures.seen (c.turn.ensures.runs _ _ c.loop.invariant.2) in
+    (g.W.World.seen c.stop_asked.new.self, c.turn.new.self.conns, s.0, c.finish.ensures.lost (λ e. cc) is)
+
+pub returns-in-Err-clause-lost : goal.returns-in-Err-clause-lost
+returns-in-Err-clause-lost g c = λ is more. absurd (not_asked c.finish-in-Err.result (g.W.World.seen c.args.world.now).stops (g.W.World.seen c.finish-in-Err.new.world).stops (fault_end c.finish-in-Err.result c.finish-in-Err.ensures.same)
+    (c.finish-in-Err.ensures.unasked.0 ∙ failed_stops (g.W.World.seen c.stop_asked.new.self) (g.W.World.seen c.wait.new.self) no_deadline _ c.in-Err.ensures.seen ∙ unasked_stops (g.W.World.seen c.turn.new.world) (g.W.World.seen c.stop_asked.new.self) c.if-stop_asked.ensures.seen ∙ c.turn.ensures.stops ∙ c.loop.invariant.3) (inr more))

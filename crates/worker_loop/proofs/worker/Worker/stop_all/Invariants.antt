@@ -1,5 +1,5 @@
 use Rattle.worker_loop.specs.Rounds.{Parted}
-use Rattle.std.proofs.Common.{◌≡◌, ◌<◌, ◌≤◌, ℕ, List, None, true}
+use Rattle.std.proofs.Common.{◌≡◌, ◌<◌, ◌≤◌, ℕ, List, None, true, false}
 use Rattle.slab.specs.Slab.{Slab, get}
 use Rattle.conn_machine.specs.declared.conn.Conn.{Conn}
 use Rattle.worker_loop.specs.Met.{Meets}
@@ -9,6 +9,7 @@ use Rattle.desk.specs.Desks.{Desk}
 use Rattle.worker_loop.specs.Accounts.{Accounts}
 use Rattle.worker_loop.specs.Runs.{Runs, Stopping, IsStopping, Unasked}
 use Rattle.worker_loop.specs.Settled.{EndsOnly}
+use Rattle.worker_loop.proofs.Losses.{IsLostBefore, AreUnnoted}
 use Rattle.worker_loop.proofs.worker.Worker.stop_all.Given as goal
 
 -- the connections stay attended, and a run with a reason to stop goes on
@@ -24,3 +25,5 @@ invariant-loop-key g l =
     × EndsOnly (g.W.World.seen l.fn.world) (g.W.World.seen l.world) l.fn.self.conns
     × ((first : Slab Conn) (base : Seen) → l.all ≡ true → Meets first base (g.W.World.seen l.fn.world) l.fn.self.conns → Meets first base (g.W.World.seen l.world) l.self.conns)
     × Parted (g.W.World.seen l.fn.world) (g.W.World.seen l.world)
+    × (l.all ≡ false → IsLostBefore (g.W.World.seen l.fn.world) (g.W.World.seen l.world) l.fn.self.conns l.key)
+    × AreUnnoted (g.W.World.seen l.fn.world) (g.W.World.seen l.world) l.self.conns

@@ -2,6 +2,8 @@ use Rattle.worker_loop.proofs.Roundings.{parted_none, parted_went, parted_lost}
 use Rattle.std.proofs.Common.{sym, []}
 use Rattle.worker_loop.proofs.Servings.{step_over, step_lost, stopping_kept, stopping_lost, desk_of, moved, strayed, unasked_went, unasked_lost, ends_none}
 use Rattle.worker_loop.proofs.Stops.{ends_stopped, ends_lost}
+use Rattle.conn_service.proofs.Wents.{at_err}
+use Rattle.worker_loop.proofs.Losses.{unnoted_none, unnoted_lost, unnoted_alone, alone_lost}
 use Rattle.worker_loop.proofs.Accountings.{accounts_over}
 use Rattle.worker_loop.proofs.Meetings.{meets_over}
 use Rattle.worker_loop.proofs.worker.Worker.stop_key.Goals as goal
@@ -55,3 +57,17 @@ returns-in_err-stop-clause-parted g c = parted_lost c.stop.ensures.tells (straye
 
 pub returns-clause-parted : goal.returns-clause-parted
 returns-clause-parted g c = parted_went c.stop.ensures.tells (moved (c.in_ok-stop.ensures.went (desk_of [])))
+
+pub returns-in_default-clause-alone : goal.returns-in_default-clause-alone
+returns-in_default-clause-alone g c = λ k x ne gx. unnoted_none (g.W.World.seen c.args.world.now) x.client.link
+
+pub returns-in_err-stop-clause-alone : goal.returns-in_err-stop-clause-alone
+returns-in_err-stop-clause-alone g c = λ k x ne gx. alone_lost c.args.self.now.conns c.args.key k x c.requires.4.attends (sym c.in-Some.ensures.value) ne gx (strayed (c.in_err-stop.ensures.lost (desk_of [])))
+
+pub returns-clause-alone : goal.returns-clause-alone
+returns-clause-alone g c = λ k x ne gx. unnoted_alone c.args.self.now.conns c.args.key k x c.requires.4.attends (sym c.in-Some.ensures.value) ne gx (moved (c.in_ok-stop.ensures.went (desk_of [])))
+
+pub returns-in_err-stop-clause-lost : goal.returns-in_err-stop-clause-lost
+returns-in_err-stop-clause-lost g c =
+    let t = c.requires.4.attends.tracks c.args.key c.in-Some.conn (sym c.in-Some.ensures.value) in
+    at_err c.from_residual.result (c.in-Some.conn, sym c.in-Some.ensures.value, unnoted_lost t (strayed (c.in_err-stop.ensures.lost (desk_of []))))
