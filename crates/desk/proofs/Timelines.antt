@@ -1,10 +1,10 @@
 -- A timeline that grows, and what is pinned of it.
-use Rattle.std.proofs.Common.{◌≡◌, ℕ, ◌+◌, inl, List, [], ◌∷◌, ◌++◌, map, Option, Some, refl, sym, ap, ◌∙◌, subst, append-nil, append_assoc}
+use Rattle.std.proofs.Common.{◌≡◌, ℕ, ◌+◌, inl, inr, List, [], ◌∷◌, ◌++◌, map, Option, Some, refl, sym, ap, ◌∙◌, subst, append-nil, append_assoc}
 use Rattle.std.specs.Prelude.{replicate, Result, Ok, Err, IfOk, OnOk, OnErr, MatchResult}
 use Rattle.std.specs.List.{Contains, flat_map}
 use Rattle.std.proofs.lemmas.Grind.{flat_map-append, replicate_next}
 use Rattle.std.proofs.lemmas.List.{map-append}
-use Rattle.std.proofs.lemmas.List.Elements.{Contains-push}
+use Rattle.std.proofs.lemmas.List.Elements.{Contains-push, Contains-push_cases}
 use Rattle.std.specs.declared.sync.Arc.{Arc}
 use Rattle.std.specs.declared.alloc.Global.{Global}
 use Rattle.std.specs.declared.alloc.AllocError.{AllocError}
@@ -86,6 +86,18 @@ pinned_or earlier earlier' newest newest' attended (Err error) i g p e h = recor
   grew = ([], g ∙ sym (append-nil (generations_of earlier newest)));
   counted = inl (e, refl);
 }
+
+-- where each pin had this number, and the newest has it, each pin has it
+pub pinned_numbers : (earlier earlier' : List Published) (newest newest' : Published) (number : ℕ) (result : Result (Arc Generation Global) AllocError)
+    → OnOk result (pins_of earlier' newest' ≡ pins_of earlier newest ++ published_plan newest' ∷ []) → OnErr result (pins_of earlier' newest' ≡ pins_of earlier newest)
+    → (published_plan newest').number ≡ number → ((p : Plan) → Contains (pins_of earlier newest) p → p.number ≡ number)
+    → (p : Plan) → Contains (pins_of earlier' newest') p → p.number ≡ number
+pinned_numbers earlier earlier' newest newest' number (Ok issue) ok err is all p has =
+    elim (Contains-push_cases (pins_of earlier newest) (published_plan newest') p (subst (λ (ps : List Plan). Contains ps p) ok has)) [
+      | inl before ↦ all p before
+      | inr same ↦ subst (λ (q : Plan). q.number ≡ number) same is
+    ]
+pinned_numbers earlier earlier' newest newest' number (Err error) ok err is all p has = all p (subst (λ (ps : List Plan). Contains ps p) err has)
 
 pub last_among : (ps : List Plan) (p : Plan) → IsLast ps p → Contains ps p
 last_among ps p l = subst (λ (xs : List Plan). Contains xs p) (sym l.1) (Contains-push l.0 p)

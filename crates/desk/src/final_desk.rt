@@ -1,5 +1,5 @@
 //! What one thread shares with itself once nothing more is published.
-ghost use Rattle.std.specs.Prelude.{◌≡◌, ◌<◌, List, Some};
+ghost use Rattle.std.specs.Prelude.{◌≡◌, ◌<◌, [], Contains, List, Some};
 ghost use Rattle.conversation.specs.Plans.{Plan};
 ghost use Rattle.wrr_deadlines.specs.Choice.{Draws};
 ghost use Rattle.desk.specs.Desks.{IsAttended, LookDid, DrawDid, Reseated, RoomLeft, Grew, IsLast, seat_at, one_server};
@@ -14,17 +14,20 @@ use std::alloc::Global;
 use std::sync::{Arc, Wait};
 use wrr_deadlines::Drawn;
 
-/// A desk of one thread whose last generation keeps its number: nothing more is published on it.
+/// A desk of one thread whose last generation keeps its number: nothing more is published on it, and each pin of it is of
+/// that generation.
 #[derive(Drop)]
 pub struct FinalDesk<const LAST: u64> {
     pub(crate) desk: OneDesk,
     ghost last: { (newest_plan desk).number ≡ LAST },
+    ghost pinned: { (p : Plan) → Contains (desk_of desk).pins p → p.number ≡ LAST },
 }
 
 impl<const LAST: u64> FinalDesk<LAST> {
-    /// The desk, from now on without publications.
+    /// The desk, which nothing was pinned of, from now on without publications.
     pub fn new(desk: OneDesk) -> FinalDesk<LAST>
-        requires { (newest_plan desk).number ≡ LAST }
+        requires last { (newest_plan desk).number ≡ LAST }
+        requires unpinned { (desk_of desk).pins ≡ [] }
         ensures { result.desk ≡ desk }
     {
         FinalDesk { desk }
@@ -35,6 +38,7 @@ impl<const LAST: u64> FinalDesk<LAST> {
         ensures desk { result ≡ self.entry.desk }
         ensures all { (plans : List Plan) (p : Plan) → Grew plans (desk_of self.entry.desk).generations → IsLast plans p → p.number ≡ LAST
             → (desk_of self.entry.desk).generations ≡ plans }
+        ensures pinned { (p : Plan) → Contains (desk_of self.entry.desk).pins p → p.number ≡ LAST }
     {
         let FinalDesk { desk, .. } = self;
         desk
