@@ -1,7 +1,7 @@
 -- How a table grows out of paths that rise.
 use Rattle.std.proofs.Common.{◌≡◌, ◌≢◌, ℕ, zero, suc, ◌+◌, ◌<◌, ◌≤◌, ◌==◌, ◌⊎◌, inl, inr, Bool, true, false, ◌&&◌, not, List, [], ◌∷◌, ◌++◌, length, take, drop, map, get_or, slice_index, refl, sym, ap, ap₂, ◌∙◌, subst, arith, Less, Equal, Ordering, nat_cmp, append-nil}
-use Rattle.std.specs.List.{AllByRecursion, prefix_len}
-use Rattle.std.specs.Ordering.{ordering_then}
+use Rattle.std.specs.List.{AllByRecursion, prefix_len, list_all}
+use Rattle.std.specs.Ordering.{ordering_then, is_lt}
 use Rattle.std.specs.Cmp.Lexicographic.{slice_cmp}
 use Rattle.std.specs.List.Sorted.{IsStrictlySortedBy}
 use Rattle.std.specs.Map.{keys_of}
@@ -11,11 +11,12 @@ use Rattle.std.proofs.lemmas.Cmp.{nat_list_cmp_total}
 use Rattle.std.proofs.lemmas.List.{map-append, length-append, take-append-le, take_all}
 use Rattle.std.proofs.lemmas.Grind.{flat_map-append}
 use Rattle.std.proofs.lemmas.List.Folds.{list_all-append}
+use Rattle.std.proofs.lemmas.Map.Made.{keys_of-map_values}
 use Rattle.std.proofs.lemmas.Slice.Eq.{bytes_eq-Decides}
 use Rattle.field_tree.specs.declared.tree.Tree.{Tree}
 use Rattle.field_tree.specs.Table.{KeysRise}
 use Rattle.consul_kv.specs.Keys.{Pair, rank, is_below}
-use Rattle.consul_kv.specs.Leaves.{leaves, field_leaves, leaves_below, is_part, is_grown, are_grown, fields_grown, under}
+use Rattle.consul_kv.specs.Leaves.{leaves, field_leaves, leaves_below, is_part, is_grown, keys_rise, fields_grown, under}
 use Rattle.consul_kv.specs.Rises.{Leads, GoesBefore, Rises, first_part, slashed, cut, HasFirstPart, IsAhead, IsBranch}
 use Rattle.consul_kv.proofs.Order.{rank_least, before_apart}
 
@@ -266,6 +267,29 @@ sorted_snoc (k ∷ keys) name h a = (all_snoc (λ (y : List ℕ). cmp k y ≡ Le
 pub rise_snoc : (fields : List (List ℕ × Tree)) (name : List ℕ) (tree : Tree) → KeysRise fields → AllLess (keys_of fields) name → KeysRise (fields ++ (name, tree) ∷ [])
 rise_snoc fields name tree h a = subst (IsStrictlySortedBy cmp) (sym (keys_snoc fields name tree)) (sorted_snoc (keys_of fields) name h a)
 
+-- keys in order pass the test of it
+all_above : (key : List ℕ) (keys : List (List ℕ)) → AllByRecursion (λ (k : List ℕ). cmp key k ≡ Less) keys → list_all (λ (k : List ℕ). is_lt (cmp key k)) keys ≡ true
+all_above key [] h = refl
+all_above key (k ∷ keys) h = and_from _ _ (ap is_lt h.0) (all_above key keys h.1)
+
+rise_true : (keys : List (List ℕ)) → IsStrictlySortedBy cmp keys → keys_rise keys ≡ true
+unfolding IsStrictlySortedBy
+rise_true [] h = refl
+rise_true (k ∷ keys) h = and_from _ _ (all_above k keys h.0) (rise_true keys h.1)
+
+abbrev grown_field : List ℕ × Tree → List ℕ × Bool
+grown_field f = (f.0, is_grown f.1)
+
+-- fields whose keys rise, without a slash and with trees that have grown, are grown
+abbrev each_grown : List (List ℕ × Tree) → Bool
+each_grown fields = list_all (λ (f : List ℕ × Bool). is_part f.0 && f.1) (map grown_field fields)
+
+grown_from : (fields : List (List ℕ × Tree)) → KeysRise fields → each_grown fields ≡ true → fields_grown fields ≡ true
+grown_from fields h e = and_from _ _ (ap keys_rise (keys_of-map_values is_grown fields) ∙ rise_true (keys_of fields) h) e
+
+grown_each : (fields : List (List ℕ × Tree)) → fields_grown fields ≡ true → each_grown fields ≡ true
+grown_each fields h = (and_parts (keys_rise (keys_of (map grown_field fields))) (each_grown fields) h).1
+
 all_chain : (keys : List (List ℕ)) (m n : List ℕ) → AllLess keys m → cmp m n ≡ Less → AllLess keys n
 all_chain [] m n h l = tt
 all_chain (k ∷ keys) m n h l = (nat_list_cmp_total.trans k m n h.0 l, all_chain keys m n h.1 l)
@@ -323,9 +347,10 @@ branch_more paths at fields name tree taken g b =
           ∙ flat_map-append (λ (f : List ℕ × List Pair). map (under f.0) f.1) (map (λ (f : List ℕ × Tree). (f.0, leaves f.1)) fields) ((name, leaves tree) ∷ [])
           ∙ ap₂ (λ (x y : List Pair). x ++ y) g.texts (append-nil (map (under name) (leaves tree)) ∙ b.texts)
           ∙ sym (map-append slashed (take at paths) (take taken (drop at paths))) ∙ ap (map slashed) (sym (take_on at taken paths));
-      grown = ap are_grown (map-append (λ (f : List ℕ × Tree). (f.0, is_grown f.1)) fields ((name, tree) ∷ []))
-          ∙ list_all-append (λ (f : List ℕ × Bool). is_part f.0 && f.1) (map (λ (f : List ℕ × Tree). (f.0, is_grown f.1)) fields) ((name, is_grown tree) ∷ [])
-          ∙ and_from _ _ g.grown (and_from _ _ (and_from _ _ b.part b.grown) refl);
+      grown = grown_from (fields ++ (name, tree) ∷ []) (rise_snoc fields name tree g.rising below)
+          (ap (list_all (λ (f : List ℕ × Bool). is_part f.0 && f.1)) (map-append grown_field fields ((name, tree) ∷ []))
+          ∙ list_all-append (λ (f : List ℕ × Bool). is_part f.0 && f.1) (map grown_field fields) ((name, is_grown tree) ∷ [])
+          ∙ and_from _ _ (grown_each fields g.grown) (and_from _ _ (and_from _ _ b.part b.grown) refl));
       rising = rise_snoc fields name tree g.rising below;
       ahead = rw (keys_snoc fields name tree, drop_on at taken paths) (ahead_snoc (keys_of fields) name (drop taken (drop at paths)) below b.ahead);
       filled = λ h. omega (arith, length-append fields ((name, tree) ∷ []));

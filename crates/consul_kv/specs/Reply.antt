@@ -23,8 +23,8 @@ use Rattle.consul_kv.specs.declared.config.KvFault.TheVariants as kv
 abbrev pub behind : List ℕ → Pair → Pair
 behind root pair = (drop (length root) pair.0, pair.1)
 
--- the texts of these fields, each under its keys, are the values, each under what its key has behind the root. No table
--- among them is empty and none of their keys has a slash, so there is one such table
+-- the texts of these fields, each under its keys, are the values, each under what its key has behind the root. In each
+-- table, this one too, the keys rise and none of them has a slash, and no table below this one is empty
 pub record AreFieldsOf (root : List ℕ) (pairs : List Pair) (fields : List (List ℕ × Tree)) : Type 0 where
   pub texts : field_leaves fields ≡ map (behind root) pairs
   pub grown : fields_grown fields ≡ true
