@@ -1,0 +1,12 @@
+use Rattle.std.proofs.Common.{Option, sym, subst}
+use Rattle.std.proofs.lemmas.Result.{IfOk-weaker}
+use Rattle.middleware_chain.specs.Folds.{Through}
+use Rattle.middleware_chain.specs.declared.chain.Chain.{Chain}
+use Rattle.runtime_config.specs.Linked.{stages_in}
+use Rattle.runtime_config.proofs.config.RuntimeConfig.apply.Goals as goal
+
+pub returns-clause-through : goal.returns-clause-through
+returns-clause-through c =
+    IfOk-weaker c.apply.result _ _
+    (λ flow t. let P : Option Chain → Type 0 = λ link. Through (stages_in c.args.self.now.chains link) c.args.request c.args.peer flow in subst P (sym c.chain_at.ensures.there) t)
+    c.apply.ensures.through

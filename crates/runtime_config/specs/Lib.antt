@@ -1,0 +1,4 @@
+pub mod Usable
+pub mod Linked
+pub mod Runtime
+pub mod Running
