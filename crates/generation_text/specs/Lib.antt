@@ -1,1 +1,4 @@
 pub mod Texts
+pub mod Services
+pub mod Generation
+pub mod Told

@@ -1,8 +1,14 @@
-//! The text of a configuration as it is served: its routers, its services and their servers, a line each.
+//! The text of a configuration as it runs: its number, its routers, its services with their servers and its middlewares, a line
+//! each.
 #![tactic(auto)]
 
+mod graph;
+mod law;
 mod rows;
 mod services;
+mod whole;
 
+pub use law::services_are_told;
 pub use rows::push_rows;
 pub use services::services_text;
+pub use whole::generation_text;

@@ -1,0 +1,5 @@
+use Rattle.generation_text.proofs.Telling.{told}
+use Rattle.generation_text.proofs.law.services_are_told.Goals as goal
+
+pub returns : goal.returns
+returns c = told
