@@ -1,12 +1,28 @@
 #!/usr/bin/env bash
 # Files and heads at each limit and one past it, and files that are made to cost much: each gets its answer within 20 seconds.
+# Where a router is disabled `route` shows no reason, so that `serve` is asked what it makes of the same file.
 source "$(dirname "$0")/lib/common.sh"
+needs python3
 build
 
 # expect STATUS LINE WHAT: what `route` answers to the head $room/head under the file on standard input.
 expect() {
   cat > "$room/file.toml"
   answers "$1" "$2"$'\n' "$3" route "$room/file.toml" < "$room/head"
+}
+
+# judged STATE WHAT: what becomes of the router r in the file that `expect` was given last: `enabled`, or `disabled` and a reason.
+judged() {
+  served "$room/file.toml"
+  grep -qE "^router [0-9]+ r@file priority -?[0-9]+ $1\$" "$room/served" ||
+    fail "$2: '$(grep ' r@file ' "$room/served" | tail -c 200)', and '$1' is wanted"
+}
+# enabled COUNT WHAT: so many routers of that file are enabled.
+enabled() {
+  local got
+  served "$room/file.toml"
+  got=$(grep -cE '^router .* enabled$' "$room/served") || true
+  [ "$got" = "$1" ] || fail "$2: $got routers are enabled, and $1 are wanted"
 }
 
 # many COUNT TEXT: the text so many times, each `@` in it the number in six digits.
@@ -59,6 +75,7 @@ at_limits_of_values() {
   expect 3 'config Range http.services.s.loadBalancer.servers[0].weight' 'a greater weight' < <(first; echo 'weight = 2147483648')
   expect 0 "$found" 'the greatest priority' < <(router r 'PathPrefix(`/`)'; echo 'priority = 9223372036854774807'; printf '%s' "$server")
   expect 0 '404' 'a greater priority' < <(router r 'PathPrefix(`/`)'; echo 'priority = 9223372036854774808'; printf '%s' "$server")
+  judged 'disabled Priority' 'a greater priority'
   local probe=$'[http.services.s.loadBalancer.healthCheck]\npath = "/"\n'
   expect 3 'config Later' 'a day' < <(first; printf '%s' "$probe"; echo 'interval = "23h60m"')
   expect 3 'config Range http.services.s.loadBalancer.healthCheck.interval' 'more than a day' < <(first; printf '%s' "$probe"; echo 'interval = "24h1ms"')
@@ -71,20 +88,26 @@ at_limits_of_rules() {
   expect 0 "$found" 'a rule of 4,096 bytes' < <(under "Path(\`$path\`)")
   ask "${path}a"
   expect 0 '404' 'a rule of 4,097 bytes' < <(under "Path(\`${path}a\`)")
+  judged 'disabled Rule TooLong' 'a rule of 4,097 bytes'
   ask /
   expect 0 "$found" '32 parentheses' < <(under "$(times 32 '(')Path(\`/\`)$(times 32 ')')")
   expect 0 '404' '33 parentheses' < <(under "$(times 33 '(')Path(\`/\`)$(times 33 ')')")
+  judged 'disabled Rule TooDeep' '33 parentheses'
   expect 0 "$found" '32 negations' < <(under "$(times 32 '!')Path(\`/\`)")
   expect 0 '404' '33 negations' < <(under "$(times 33 '!')Path(\`/other\`)")
+  judged 'disabled Rule TooDeep' '33 negations'
   ask /n
   expect 0 "$found" 'a pattern of 512 bytes' < <(under "PathRegexp(\`^/nz*$(times 253 'z?')\$\`)")
-  expect 0 '404' 'a pattern of 513 bytes' < <(under "PathRegexp(\`^/nz*z*$(times 252 'z?')z*\$\`)")
+  expect 0 '404' 'a pattern of 513 bytes' < <(under "PathRegexp(\`^/n+z*$(times 253 'z?')\$\`)")
+  judged 'disabled Rule Value 11' 'a pattern of 513 bytes'
   local patterns=$'[http.routers.r@]\nrule = "PathRegexp(`^/n@$`)"\nservice = "s"\n'
   ask /n000255
   expect 0 'forward r000255@file http://10.0.0.1:80' '256 patterns' < <(many 256 "$patterns"; printf '%s' "$server")
   expect 0 'forward r000255@file http://10.0.0.1:80' 'the 256th of 257 patterns' < <(many 257 "$patterns"; printf '%s' "$server")
   ask /n000256
   expect 0 '404' 'the 257th pattern' < <(many 257 "$patterns"; printf '%s' "$server")
+  enabled 256 '257 patterns'
+  grep -q '^router 256 r000256@file priority [0-9]* disabled TooManyPatterns$' "$room/served" || fail 'the 257th pattern is disabled for another reason'
 }
 
 at_limits_of_heads() {
@@ -123,6 +146,7 @@ costly_tables() {
   expect 3 'config TooMany http.routers' 'routers' < <(filled $'[http.routers]\n' $'k@={}\n' '')
   expect 3 'config Unknown http.routers.r.k000000' 'options of a router' < <(filled $'[http.routers.r]\n' $'k@=1\n' '')
   expect 0 '404' 'options of tls' < <(filled $'[http.routers.r.tls]\n' $'k@=1\n' '')
+  judged 'disabled Tls' 'options of tls'
   expect 0 '404' 'tables that are not read' < <(filled '' $'tcp.k@.a=1\n' '')
   expect 3 'config Later' 'servers' < <(filled $'[http.services.s.loadBalancer]\nservers=[' '{url="u"},' $']\n')
   expect 3 'config Later' 'mirrors' < <(filled $'[http.services.s.mirroring]\nservice="s"\nmirrors=[' '{name="u"},' $']\n')
@@ -131,14 +155,24 @@ costly_tables() {
   expect 3 'config Later' 'options that are not supported' < <(filled $'[http.middlewares.m.headers]\n' $'k@=1\n' '')
 }
 
-# Rules that ask much of each request. Of the calls the last router takes the request, so that all of them are asked.
+# Rules that ask much of each request. All of them are asked: the request goes to the router that is asked last, by the pair
+# at the end of its query, by the end of its path.
 costly_rules() {
-  ask "/001949?$(many 1000 'q@=@&')"
-  expect 0 'forward r001949@file http://10.0.0.1:80' '50,000 calls that ask a long query' < <(many 1950 "$(router r@ "$(many 25 'Query(`a@`)||')Path(\`/@\`)")"$'\n'; printf '%s' "$server")
-  ask "/$(bytes 8000 a)"
-  expect 0 '404' '256 large patterns' < <(many 256 "$(router r@ 'PathRegexp(`(\pL|\pN|\w){15}b@`)')"$'\n'; printf '%s' "$server")
+  local calls
+  calls=$(many 1950 "$(router r@ "$(many 25 'Query(`a@`)||')Query(\`b@\`)")"$'\n'; printf '%s' "$server")
+  ask "/?$(many 1000 'q@=@&')b001949"
+  expect 0 'forward r001949@file http://10.0.0.1:80' '50,700 calls that ask a long query' <<<"$calls"
+  ask "/?$(many 1000 'q@=@&')b001950"
+  expect 0 '404' '50,700 calls that are all untrue' <<<"$calls"
+  ask "/$(bytes 8000 a)c"
+  expect 0 'forward r000255@file http://10.0.0.1:80' '256 large patterns' < <(
+    many 255 "$(router r@ 'PathRegexp(`(\pL|\pN|\w){15}b@`)')"$'\n'
+    router r000255 'PathRegexp(`(\pL|\pN|\w){15}c`)'
+    printf '%s' "$server")
+  enabled 256 '256 large patterns'
   # One that is found in every path, if it is built.
   expect 0 '404' 'a pattern that is too big' < <(under 'PathRegexp(`/|((a{1000}){1000}){1000}`)')
+  judged 'disabled Compile TooBig 0' 'a pattern that is too big'
 }
 
 at_limits_of_files

@@ -4,11 +4,6 @@ source "$(dirname "$0")/lib/common.sh"
 needs curl python3
 build
 
-# A free port of the loopback.
-free_port() {
-  python3 -c 'import socket; s = socket.socket(); s.bind(("127.0.0.1", 0)); print(s.getsockname()[1])'
-}
-
 # expect STATUS TEXT PATH: what a request for this path gets.
 expect() {
   local got

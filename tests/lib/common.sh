@@ -81,6 +81,21 @@ start() {
   exit 1
 }
 
+# free_port: a free port of the loopback.
+free_port() {
+  python3 -c 'import socket; s = socket.socket(); s.bind(("127.0.0.1", 0)); print(s.getsockname()[1])'
+}
+
+# served FILE: leaves what `serve` writes of this file in $room/served. A bad request, which is noted, ends it.
+served() {
+  local at
+  at=$(free_port)
+  start "$at" "$proxy" serve "web=127.0.0.1:$at" --file "$1" --requests 1
+  timeout 20 bash -c "exec 3<>/dev/tcp/127.0.0.1/$at; printf 'garbage\r\n\r\n' >&3; cat <&3" >/dev/null || fail "$1 isn't served"
+  ended "$pid" || fail "'serve' ended with $? over $1"
+  cp "$room/$at.log" "$room/served"
+}
+
 # ended PID: waits until a process that was started has ended, and ends with its status.
 ended() {
   unset "started[$1]"
