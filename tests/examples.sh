@@ -1,6 +1,7 @@
 #!/usr/bin/env bash
 # The built program answers the README's examples as they are written there, and each file of examples/.
 source "$(dirname "$0")/lib/common.sh"
+needs python3
 build
 
 # expect STATUS LINE FILE [WORD..]: what `route FILE WORD..` answers to the head on standard input: one line, or nothing.
@@ -59,6 +60,25 @@ router at-web http://10.0.0.1:8080 a.test /admin
 router by-priority http://10.0.0.2:80 a.test /up
 router last http://10.0.0.2:80 b.test /
 router watched http://10.0.0.1:8080 b.test /watched
+served examples/routers.toml
+cat >"$room/wanted" <<'TEXT'
+generation 1
+router 0 at-admin@file priority 38 enabled
+router 1 at-web@file priority 14 enabled
+router 2 by-priority@file priority 1000 enabled
+router 3 last@file priority -1 enabled
+router 4 lost@file priority 2003 disabled MissingService
+router 5 misspelt@file priority 2002 disabled Rule UnknownMatcher 0
+router 6 old-syntax@file priority 2001 disabled Unsupported
+router 7 secure@file priority 2000 disabled Tls
+router 8 watched@file priority 3000 enabled
+service a@file balancer node 0
+server 0 0 10.0.0.1:8080 weight 1
+service b@file balancer node 1
+server 1 0 10.0.0.2:80 weight 1
+end
+TEXT
+cmp -s "$room/served" "$room/wanted" || fail "serve makes of routers.toml '$(cat "$room/served")'"
 
 # The least and the greatest priority, one over it, and rules that are none: such a router leaves the others alone.
 # A router by its name, its rule, and its priority if it has its own.
@@ -90,6 +110,18 @@ judged least a /mixed
 expect 0 'forward net@file http://10.0.0.1:8080' "$room/rules.toml" --peer ::ffff:10.0.0.1 < <(head_for a /net)
 expect 0 'forward least@file http://10.0.0.1:8080' "$room/rules.toml" --peer 11.0.0.1 < <(head_for a /net)
 expect 0 'forward least@file http://10.0.0.1:8080' "$room/rules.toml" --peer 10.0.0.1 < <(head_for a /)
+served "$room/rules.toml"
+# refused NAME REASON: why a router of this file is disabled.
+refused() {
+  grep -qE "^router [0-9]+ $1@file priority -?[0-9]+ disabled $2\$" "$room/served" || fail "$1: '$(grep " $1@file " "$room/served")', and '$2' is wanted"
+}
+refused over Priority
+refused arity 'Rule Arity 0'
+refused lex 'Rule Lex 5'
+refused unexpected 'Rule Unexpected 12'
+refused unknown 'Rule UnknownMatcher 0'
+refused value 'Rule Value 5'
+refused bits 'Compile Address 0'
 grep -v '^priority = -9223372036854775808$' "$room/rules.toml" | sed '/^\[http.routers.least\]/,/^service/d' >"$room/without.toml"
 expect 0 '404' "$room/without.toml" < <(head_for a /)
 
