@@ -1,4 +1,5 @@
 //! Addresses of sockets, and the addresses of this project.
+ghost use Rattle.std.specs.Prelude.{ℕ, List, [], ◌∷◌, ◌++◌, ◌≡◌};
 ghost use Rattle.std.specs.Net.Socket.{socket_ip};
 ghost use Rattle.mio_world.specs.Addresses.{IsPeer};
 
@@ -23,11 +24,21 @@ pub(crate) fn socket_addr(ip: Ip, port: u16) -> SocketAddr {
     }
 }
 
-/// The address of a host, which is looked up where it is a name. None where there is none.
+/// The address of a host as a URL writes it, which is looked up where it is a name. None where there is none.
 pub(crate) fn address_of<R: Net>(rt: &R, host: &[u8], port: u16) -> Option<SocketAddr> {
-    match read_ip(host) {
+    match read_ip(without_brackets(host)) {
         Some(ip) => Some(socket_addr(ip, port)),
         None => look_up(rt, host, port),
+    }
+}
+
+/// A host without the brackets in which a URL has an IPv6 address (RFC 3986 section 3.2.2).
+fn without_brackets(host: &[u8]) -> &[u8]
+    ensures within { (inner : List ℕ) → host.now ≡ 91 ∷ inner ++ 93 ∷ [] → result.now ≡ inner }
+{
+    match host {
+        [b'[', inner @ .., b']'] => inner,
+        _ => host,
     }
 }
 

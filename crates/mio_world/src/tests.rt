@@ -81,8 +81,9 @@ fn may_move<T: Send>(_world: &T) {}
 fn exchange<N: Net + Clock + Drop, R: Abort + Wait>(
     rt: &R,
     world: &mut MioWorld<N, MemorySink>,
+    host: &[u8],
 ) -> Result<(), Fail> {
-    let back = world.dial(b"127.0.0.1", PORT)?;
+    let back = world.dial(host, PORT)?;
     let link = next_arrival(rt, world)?;
     expect_write(rt, world, back, "ping");
     expect_read(rt, world, link, LinkRead::Got(4), "ping");
@@ -132,7 +133,8 @@ fn dials_itself(rt: HostRuntime) -> Result<(), Fail> {
         panic!(rt; "the port is in use");
     };
     may_move(&world);
-    exchange(&rt, &mut world)?;
+    exchange(&rt, &mut world, b"127.0.0.1")?;
+    exchange(&rt, &mut world, b"[::ffff:127.0.0.1]")?;
     notes(&rt, alloc, &mut world)?;
     let none: Access<MemorySink> = Access::Nowhere;
     let Err(fault) = MioWorld::bind(rt, alloc, &listens, none, None) else {
