@@ -21,7 +21,7 @@ const MAX_PATTERNS: u32 = 256;
 
 /// Makes a configuration ready to run: its services are judged first, then its middlewares, then its routers.
 ///
-/// What has a fault doesn't serve, and leaves alone all that doesn't refer to it.
+/// What has a fault doesn't serve. It disables what refers to it, and nothing else, but that its patterns count as well.
 pub fn build_runtime<S: PatternShop>(
     alloc: Global,
     merged: Merged,

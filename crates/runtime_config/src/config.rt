@@ -15,7 +15,10 @@ use router_table::{RouterState, Row, Table, rows, winner};
 use service_nodes::Graph;
 use std::alloc::Global;
 
-/// A configuration as it runs: each of its routers, services and middlewares can be used, or has the first reason against it.
+/// A configuration as it runs.
+///
+/// In what `build_runtime` gives, each router, service and middleware can be used, or has the first reason against it.
+/// The type itself keeps that what an enabled router names is there.
 #[derive(Drop)]
 pub struct RuntimeConfig {
     pub(crate) merged: Merged,
