@@ -8,7 +8,7 @@ use Rattle.std.proofs.lemmas.Bool.{cases_eq, cases_lt}
 use Rattle.std.proofs.lemmas.Bool.Decides.{nat_tests}
 use Rattle.std.proofs.lemmas.List.{append-nil}
 use Rattle.ip_net.specs.declared.ip.Ip.{Ip}
-use Rattle.slab.specs.Slab.{Slab, get, ContainsKey}
+use Rattle.slab.specs.Slab.{Slab, get, slab_len, ContainsKey}
 use Rattle.link_world.specs.declared.note.Note.{Note}
 use Rattle.link_world.specs.declared.world.Arrival.{Arrival}
 use Rattle.link_world.specs.declared.world.WaitFailed.{WaitFailed}
@@ -369,13 +369,14 @@ pub failed_stops : (now new : Seen) (until : ℕ) (e : WaitFailed) → WaitDid n
 failed_stops now new until e (n, more, is) = ap (λ (s : Seen). s.stops) is
 
 -- a stop was asked for after a turn, and then connections were ended
-pub stopped_after : {l : Lately} {g : List Plan} (first : Slab Conn) (base a b d : Seen) (conns : Slab Conn) (links : ℕ) → Runs first base a g conns → Meets first base a conns → NoneStopped base a → TurnDone l conns links → a.stops ≡ base.stops
+pub stopped_after : {l : Lately} {g : List Plan} (first : Slab Conn) (base a b d : Seen) (conns : Slab Conn) (links : ℕ) → Runs first base a g conns → Meets first base a conns → NoneStopped base a → TurnDone l conns links → (slab_len first ≤ links → slab_len conns ≤ links) → a.stops ≡ base.stops
     → StopDid a true b → Unasked b d → EndsOnly b d conns → Parted b d → StoppedAfter first base a l d g conns links
-stopped_after {l} first base a b d conns links runs met none done before did un ends parted = record {
+stopped_after {l} first base a b d conns links runs met none done most before did un ends parted = record {
   runs = runs;
   met = met;
   unstopped = none;
   done = done;
+  most = most;
   before = before;
   rose = rose_kept a a b d a.stops refl refl (stop_rose a b did) un;
   ended = record {

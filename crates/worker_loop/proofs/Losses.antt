@@ -1,5 +1,5 @@
 -- A connection whose end isn't noted.
-use Rattle.std.proofs.Common.{◌≡◌, ◌≢◌, ℕ, ◌+◌, ◌<◌, List, [], ◌++◌, Option, Some, None, sym, ◌∙◌, ap, subst, inl, inr, arith}
+use Rattle.std.proofs.Common.{◌≡◌, ◌≢◌, ℕ, ◌+◌, ◌<◌, List, [], ◌∷◌, ◌++◌, Option, Some, None, sym, ◌∙◌, ap, subst, inl, inr, true, arith}
 use Rattle.std.specs.Prelude.{Result, Ok, Err, IsErr, OnErr}
 use Rattle.std.specs.List.{Contains}
 use Rattle.std.specs.declared.alloc.AllocError.{AllocError}
@@ -7,8 +7,8 @@ use Rattle.std.proofs.lemmas.List.Concat.{flat_map-append}
 use Rattle.std.proofs.lemmas.List.Elements.{Contains-append_cases}
 use Rattle.slab.specs.Slab.{Slab, get}
 use Rattle.link_world.specs.declared.note.Note.{Note}
-use Rattle.link_world.specs.Log.{Event, history_of, notes, note_by}
-use Rattle.link_world.specs.Seen.{Seen}
+use Rattle.link_world.specs.Log.{Event, asked, history_of, notes, note_by}
+use Rattle.link_world.specs.Seen.{Seen, StopDid}
 use Rattle.conversation.specs.Plans.{Plan}
 use Rattle.conversation.specs.Steps.{Step, history}
 use Rattle.conversation.specs.Served.{end_note}
@@ -105,3 +105,10 @@ lost_still {gs} {now} {steps} a b d first conns key at ends gone within (k, c, l
 
 pub one_lost : (a d : Seen) (first : Slab Conn) (key : ℕ) → IsLostBefore a d first key → IsOneLost a d first
 one_lost a d first key (k, c, lt, gc, un) = (k, c, gc, un)
+
+-- the question for a stop notes nothing
+pub lost_asked : (a b d : Seen) (conns : Slab Conn) → StopDid a true b → IsOneLost b d conns → IsOneLost a d conns
+lost_asked a b d conns did (k, c, gc, un) = (k, c, gc, unnoted_then a b d c.client.link quiet un)
+  where
+    quiet : IsUnnoted a b c.client.link
+    quiet = record { ran = asked true ∷ []; log = ap (λ (s : Seen). s.log) did.2; none = λ cause has. contains_none (end_note c.client.link cause) has }

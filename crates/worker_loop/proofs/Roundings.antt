@@ -21,7 +21,7 @@ use Rattle.conn_service.specs.Went.{IsServing, extended}
 use Rattle.worker_loop.specs.Owned.{Tracks}
 use Rattle.worker_loop.specs.Settled.{NoneStopped}
 use Rattle.worker_loop.specs.Stamps.{clock_after, clock_at, IsStamped, AreStamped}
-use Rattle.worker_loop.specs.Rounds.{no_deadline, IsNoStop, IsWork, Leads, Worked, Parted, IsRound, IsStop, IsFault, IsLastRound, RanRounds}
+use Rattle.worker_loop.specs.Rounds.{no_deadline, IsNoStop, IsWork, Leads, Worked, Parted, IsRound, IsStop, IsFault, IsLastRound, LastRound, RanRounds}
 use Rattle.worker_loop.specs.declared.rounds.WorkerEnd.{WorkerEnd}
 use Rattle.worker_loop.specs.declared.rounds.WorkerEnd.TheVariants.{Stopped, WorldFault, Memory}
 use Rattle.worker_loop.proofs.Lists.{all_both, contains_none, extended_twice, extended_none, same_ran, history-append}
@@ -247,23 +247,24 @@ rounds_next base a b c d r w unasked waits = record {
     round = w.ran ++ asked false ∷ waited no_deadline ∷ []
 
 -- the clause of a run
-abbrev pub InRounds : WorkerEnd → Seen → Seen → Type 0
-InRounds end base now = (ran : List Event) × Leads base now ran × RanRounds end ran
+abbrev pub InRounds : (lost : Type 0) → WorkerEnd → Seen → Seen → Type 0
+InRounds lost end base now = (ran : List Event) × Leads base now ran × RanRounds lost end ran
 
-last_round : (end : WorkerEnd) (base a d : Seen) (last : List Event) → Rounded base a → Leads a d last → IsLastRound end last → InRounds end base d
-last_round end base a d last r leads is = (
-  in_turn r.rounds ++ last,
-  leads_then base a d (in_turn r.rounds) last r.leads leads,
-  record { rounds = r.rounds; are_rounds = r.are_rounds; last = last; is_last = is; whole = refl },
+-- the rounds, and then the last one
+pub rounds_last : {lost : Type 0} (end : WorkerEnd) (base a d : Seen) → Rounded base a → LastRound lost end a d → InRounds lost end base d
+rounds_last end base a d r last = (
+  in_turn r.rounds ++ last.ran,
+  leads_then base a d (in_turn r.rounds) last.ran r.leads last.leads,
+  record { rounds = r.rounds; are_rounds = r.are_rounds; last = last.ran; is_last = last.is_last; whole = refl },
 )
 
 -- memory ran out in a turn
-pub rounds_quit : (base a b d : Seen) → Rounded base a → Worked a b → Worked b d → InRounds Memory base d
-rounds_quit base a b d r w v = let all = worked_then a b d w v in last_round Memory base a d all.ran r all.leads (inl all.work)
+pub last_quit : {lost : Type 0} (a b d : Seen) → Worked a b → Worked b d → LastRound lost Memory a d
+last_quit a b d w v = let all = worked_then a b d w v in record { ran = all.ran; leads = all.leads; is_last = inl all.work }
 
 -- a stop was asked for
-pub rounds_stop : (end : WorkerEnd) (base a b c d : Seen) → (end ≢ Memory → end ≡ Stopped) → Rounded base a → Worked a b → StopDid b true c → Parted c d → InRounds end base d
-rounds_stop end base a b c d same r w did p = last_round end base a d last r leads (by end same)
+pub last_stop : {lost : Type 0} (end : WorkerEnd) (a b c d : Seen) → (end ≢ Memory → end ≡ Stopped) → (end ≡ Memory → lost) → Worked a b → StopDid b true c → Parted c d → LastRound lost end a d
+last_stop {lost} end a b c d same loses w did p = record { ran = last; leads = leads; is_last = by end same loses }
   where
     last : List Event
     last = w.ran ++ asked true ∷ p.ran
@@ -275,14 +276,14 @@ rounds_stop end base a b c d same r w did p = last_round end base a d last r lea
     is_stop : IsStop last
     is_stop = record { work = w.ran; is_work = w.work; farewells = p.ran; are_farewells = p.farewells; whole = refl }
 
-    by : (e : WorkerEnd) → (e ≢ Memory → e ≡ Stopped) → IsLastRound e last
-    by Stopped same = is_stop
-    by WorldFault same = absurd (let is : WorldFault ≡ Stopped = same (λ e. cc) in let f : ⊥ = cc in f)
-    by Memory same = inr (inl is_stop)
+    by : (e : WorkerEnd) → (e ≢ Memory → e ≡ Stopped) → (e ≡ Memory → lost) → IsLastRound lost e last
+    by Stopped same loses = is_stop
+    by WorldFault same loses = absurd (let is : WorldFault ≡ Stopped = same (λ e. cc) in let f : ⊥ = cc in f)
+    by Memory same loses = inr (inl is_stop, loses refl)
 
 -- a wait failed
-pub rounds_fault : (end : WorkerEnd) (base a b c m d : Seen) (e : WaitFailed) → (end ≢ Memory → end ≡ WorldFault) → Rounded base a → Worked a b → StopDid b false c → WaitDid c no_deadline (Err e) m → Parted m d → InRounds end base d
-rounds_fault end base a b c m d e same r w unasked fails p = last_round end base a d last r leads (by end same)
+pub last_fault : {lost : Type 0} (end : WorkerEnd) (a b c m d : Seen) (e : WaitFailed) → (end ≢ Memory → end ≡ WorldFault) → (end ≡ Memory → lost) → Worked a b → StopDid b false c → WaitDid c no_deadline (Err e) m → Parted m d → LastRound lost end a d
+last_fault {lost} end a b c m d e same loses w unasked fails p = record { ran = last; leads = leads; is_last = by end same loses }
   where
     last : List Event
     last = w.ran ++ asked false ∷ wait_failed no_deadline ∷ p.ran
@@ -295,10 +296,10 @@ rounds_fault end base a b c m d e same r w unasked fails p = last_round end base
     is_fault : IsFault last
     is_fault = record { work = w.ran; is_work = w.work; farewells = p.ran; are_farewells = p.farewells; whole = refl }
 
-    by : (x : WorkerEnd) → (x ≢ Memory → x ≡ WorldFault) → IsLastRound x last
-    by Stopped same = absurd (let is : Stopped ≡ WorldFault = same (λ e. cc) in let f : ⊥ = cc in f)
-    by WorldFault same = is_fault
-    by Memory same = inr (inr is_fault)
+    by : (x : WorkerEnd) → (x ≢ Memory → x ≡ WorldFault) → (x ≡ Memory → lost) → IsLastRound lost x last
+    by Stopped same loses = absurd (let is : Stopped ≡ WorldFault = same (λ e. cc) in let f : ⊥ = cc in f)
+    by WorldFault same loses = is_fault
+    by Memory same loses = inr (inr is_fault, loses refl)
 
 -- an end for a fault isn't one for a stop
 pub fault_end : (end : WorkerEnd) → (end ≢ Memory → end ≡ WorldFault) → end ≢ Stopped

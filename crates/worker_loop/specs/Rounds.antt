@@ -74,17 +74,23 @@ pub record IsFault (ran : List Event) : Type 0 where
   pub are_farewells : AllByRecursion IsFarewell farewells
   pub whole : ran ≡ work ++ asked false ∷ wait_failed no_deadline ∷ farewells
 
--- The last round, by the answer. Memory may run out in a turn, and then nothing is asked any more; or for a note behind
--- the stop or the failed wait.
-abbrev pub IsLastRound : WorkerEnd → List Event → Type 0
-IsLastRound Stopped ran = IsStop ran
-IsLastRound WorldFault ran = IsFault ran
-IsLastRound Memory ran = AllByRecursion IsWork ran ⊎ IsStop ran ⊎ IsFault ran
+-- The last round, by the answer. Memory may run out in a turn, and then nothing is asked any more; or behind the stop or
+-- the failed wait, and then something was lost.
+abbrev pub IsLastRound : (lost : Type 0) → WorkerEnd → List Event → Type 0
+IsLastRound lost Stopped ran = IsStop ran
+IsLastRound lost WorldFault ran = IsFault ran
+IsLastRound lost Memory ran = AllByRecursion IsWork ran ⊎ ((IsStop ran ⊎ IsFault ran) × lost)
+
+-- the last round led from one moment to the other
+pub record LastRound (lost : Type 0) (end : WorkerEnd) (old new : Seen) : Type 0 where
+  pub ran : List Event
+  pub leads : Leads old new ran
+  pub is_last : IsLastRound lost end ran
 
 -- rounds, and then the last one
-pub record RanRounds (end : WorkerEnd) (ran : List Event) : Type 0 where
+pub record RanRounds (lost : Type 0) (end : WorkerEnd) (ran : List Event) : Type 0 where
   pub rounds : List (List Event)
   pub are_rounds : AllByRecursion IsRound rounds
   pub last : List Event
-  pub is_last : IsLastRound end last
+  pub is_last : IsLastRound lost end last
   pub whole : ran ≡ flat_map (λ (round : List Event). round) rounds ++ last

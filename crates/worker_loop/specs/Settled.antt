@@ -46,6 +46,10 @@ pub record IsUnnoted (old new : Seen) (link : ℕ) : Type 0 where
 abbrev pub IsOneLost : Seen → Seen → Slab Conn → Type 0
 IsOneLost old new conns = (k : ℕ) × (c : Conn) × (get conns k ≡ Some c) × IsUnnoted old new c.client.link
 
+-- at some moment of a run that began with these connections one was open whose end wasn't noted from then on
+abbrev pub LosesOne : (first : Slab Conn) → (base now : Seen) → List Plan → Type 0
+LosesOne first base now generations = (at : Seen) × (conns : Slab Conn) × Runs first base at generations conns × IsOneLost at now conns
+
 -- since then no connection was ended for a stop
 pub record NoneStopped (old new : Seen) : Type 0 where
   pub ran : List Event
@@ -59,13 +63,15 @@ pub record StopTold (old new : Seen) : Type 0 where
   pub are_farewells : AllByRecursion IsFarewell farewells
 
 -- A run that began with these connections came to a moment after a turn, at which these are open and nothing more could be
--- done. No client was forgotten until then, and none was ended for a stop. The first thing behind that moment is the stop
--- that was asked for; then links were closed and notes told, on the links of these connections, and nothing else was done.
+-- done. No client was forgotten until then, none was ended for a stop, and if no more were open at first than may be, no
+-- more are now. The first thing behind that moment is the stop that was asked for; then links were closed and notes told,
+-- on the links of these connections, and nothing else was done.
 pub record StoppedAfter (first : Slab Conn) (base at : Seen) (l : Lately) (new : Seen) (generations : List Plan) (conns : Slab Conn) (links : ℕ) : Type 0 where
   pub runs : Runs first base at generations conns
   pub met : Meets first base at conns
   pub unstopped : NoneStopped base at
   pub done : TurnDone l conns links
+  pub most : slab_len first ≤ links → slab_len conns ≤ links
   pub before : at.stops ≡ base.stops
   pub rose : Rose at.stops new.stops
   pub ended : EndsOnly at new conns

@@ -2,13 +2,13 @@
 ghost use Rattle.std.specs.Prelude.{◌≡◌, ◌≢◌, ◌⊎◌, ◌<◌, ◌++◌, ℕ, List, IfSome, None};
 ghost use Rattle.slab.specs.Slab.{Slab, get};
 ghost use Rattle.conn_machine.specs.declared.conn.Conn.{Conn};
-ghost use Rattle.worker_loop.specs.Settled.{EndsOnly, StoppedAfter, IsOneLost};
+ghost use Rattle.worker_loop.specs.Settled.{EndsOnly, StoppedAfter, IsOneLost, LosesOne};
 ghost use Rattle.worker_loop.specs.Complete.{AllComplete};
 ghost use Rattle.desk.specs.Desks.{Desk, Grew};
 ghost use Rattle.worker_loop.specs.Accounts.{Accounts};
 ghost use Rattle.worker_loop.specs.Met.{Meets, AllEnded, AllClosed, AllNamed, NotesOfClients};
 ghost use Rattle.worker_loop.specs.Named.{NamesDistinct};
-ghost use Rattle.worker_loop.specs.Rounds.{Leads, Parted, RanRounds};
+ghost use Rattle.worker_loop.specs.Rounds.{Leads, Parted, LastRound, RanRounds};
 ghost use Rattle.link_world.specs.Log.{Event};
 ghost use Rattle.link_world.specs.Seen.{Seen, Rose};
 ghost use Rattle.conversation.specs.Plans.{Plan};
@@ -33,7 +33,7 @@ pub enum WorkerEnd {
 }
 
 /// Serves the clients that come to a world until a stop is asked for: each round is a turn, the question for a stop,
-/// and a wait. All connections are ended with notes first.
+/// and a wait. Unless memory runs out, all connections are ended with notes first.
 ///
 /// On each client connection that a worker ends, however messages, publications, pieces, replies and faults
 /// interleave, the bytes sent spell the replies to its requests in order; each reply and forwarded request is the
@@ -57,8 +57,21 @@ pub fn run_worker<R: Wait, W: World, S: Shared>(
 
     // It ran in rounds: work, one question whether to stop, one wait until a link has something new. A connection was
     // ended for a stop only behind a question that was answered yes, or a wait that failed. Each event on a link carries
-    // the clock's last answer before it.
-    ensures rounds { (ran : List Event) × Leads (W.seen world.old) (W.seen world.new) ran × RanRounds result ran }
+    // the clock's last answer before it. Where memory ran out behind such a question or wait, the end of a connection
+    // wasn't noted.
+    ensures rounds { (ran : List Event) × Leads (W.seen world.old) (W.seen world.new) ran
+        × RanRounds (LosesOne worker.old.conns (W.seen world.old) (W.seen world.new) (S.desk shared.new).generations) result ran }
+
+    // Whatever the answer, up to the last round each pin, look and pick of the desk is accounted for, no client is
+    // forgotten, each link that isn't in use is closed, and each that was dialled is named by the note of a request or is
+    // that of an open connection's request.
+    ensures until { (at : W) × (held : S) × (conns : Slab Conn)
+        × LastRound (LosesOne worker.old.conns (W.seen world.old) (W.seen world.new) (S.desk shared.new).generations) result (W.seen at) (W.seen world.new)
+        × Grew (S.desk held).generations (S.desk shared.new).generations
+        × Runs worker.old.conns (W.seen world.old) (W.seen at) (S.desk held).generations conns
+        × Meets worker.old.conns (W.seen world.old) (W.seen at) conns
+        × ((base : Seen) (from : Desk) → Accounts base (W.seen world.old) from (S.desk shared.old) worker.old.conns
+        → Accounts base (W.seen at) from (S.desk held) conns) }
 
     // Notes were told on the links of clients alone, that were there at the start or came in this run.
     ensures noted { NotesOfClients worker.old.conns (W.seen world.old) (W.seen world.new) }
@@ -69,33 +82,32 @@ pub fn run_worker<R: Wait, W: World, S: Shared>(
     // No connection is open any more.
     ensures ended { (k : ℕ) → get worker.new.conns k ≡ None }
 
-    // Each pin of the desk since the worker first used it is accounted for, and so is each look and each pick under each
-    // number. A draw was refused only where the desk's count says so.
+    // Unless memory ran out, each pin of the desk since the worker first used it is accounted for, and so is each look and
+    // each pick under each number. A draw was refused only where the desk's count says so.
     ensures accounts { (base : Seen) (from : Desk) → result ≢ WorkerEnd.Memory
         → Accounts base (W.seen world.old) from (S.desk shared.old) worker.old.conns
         → Accounts base (W.seen world.new) from (S.desk shared.new) worker.new.conns }
 
-    // No client is forgotten: the end of each that was there at the start or came in this run was noted in it.
+    // Unless memory ran out, no client is forgotten: the end of each that was there at the start or came in this run was
+    // noted in it.
     ensures met { result ≢ WorkerEnd.Memory → AllEnded worker.old.conns (W.seen world.old) (W.seen world.new) }
 
-    // Each link that was in use at the start, or was given in this run, is closed.
+    // Unless memory ran out, each link that was in use at the start, or was given in this run, is closed.
     ensures closed { result ≢ WorkerEnd.Memory → AllClosed worker.old.conns (W.seen world.old) (W.seen world.new) }
 
-    // Each link that was dialled in this run is named by the note of a request.
+    // Unless memory ran out, each link that was dialled in this run is named by the note of a request.
     ensures owned { result ≢ WorkerEnd.Memory → AllNamed (W.seen world.old) (W.seen world.new) }
     ensures stopped { result ≡ WorkerEnd.Stopped → Rose (W.seen world.old).stops (W.seen world.new).stops }
 
-    // A stop was asked for right after a turn at whose end nothing more could be done, and then the open connections were
-    // ended. Of a connection whose client gave whole valid requests without a body and nothing else, each has its whole
-    // reply, or one of the excuses of `IsOver`; one that memory failed owes nothing.
+    // Where a stop was asked for, it was right after a turn at whose end nothing more could be done and, if no more clients
+    // were there at first than may be, no more were there; then the open connections were ended. Where the answer is
+    // `Memory` still, the end of one of these wasn't noted. Of a connection whose client gave whole valid requests without
+    // a body and nothing else, each has its whole reply, or one of the excuses of `IsOver`; one that memory failed owes
+    // nothing.
     ensures settled { (result ≡ WorkerEnd.Stopped) ⊎ ((W.seen world.old).stops < (W.seen world.new).stops) → (at : W) × (conns : Slab Conn)
         × StoppedAfter worker.old.conns (W.seen world.old) (W.seen at) (W.lately at) (W.seen world.new) (S.desk shared.new).generations conns worker.old.links
-        × AllComplete (W.seen world.old) (W.seen at) (W.lately at) (W.seen world.new) }
-
-    // Where a stop was counted and the answer is `Memory` still, a note found no memory: of the connections that were open
-    // when the stop was asked for, the end of one wasn't noted.
-    ensures lost { result ≡ WorkerEnd.Memory → (W.seen world.old).stops < (W.seen world.new).stops → (at : Seen) × (conns : Slab Conn)
-        × Runs worker.old.conns (W.seen world.old) at (S.desk shared.new).generations conns × IsOneLost at (W.seen world.new) conns }
+        × AllComplete (W.seen world.old) (W.seen at) (W.lately at) (W.seen world.new)
+        × (result ≡ WorkerEnd.Memory → IsOneLost (W.seen at) (W.seen world.new) conns) }
     ensures unasked { result ≡ WorkerEnd.WorldFault → (W.seen world.new).stops ≡ (W.seen world.old).stops }
     ensures fault { result ≡ WorkerEnd.WorldFault → Rose (W.seen world.old).waits_failed (W.seen world.new).waits_failed }
 {

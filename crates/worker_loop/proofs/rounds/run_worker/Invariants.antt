@@ -1,5 +1,6 @@
 use Rattle.worker_loop.specs.Settled.{NoneStopped}
-use Rattle.std.proofs.Common.{◌≡◌}
+use Rattle.std.proofs.Common.{◌≡◌, ◌≤◌}
+use Rattle.slab.specs.Slab.{slab_len}
 use Rattle.link_world.specs.Seen.{Seen}
 use Rattle.desk.specs.Desks.{Desk, Grew}
 use Rattle.worker_loop.specs.Accounts.{Accounts}
@@ -19,3 +20,4 @@ invariant-loop g l =
     × Meets l.fn.worker.conns (g.W.World.seen l.fn.world) (g.W.World.seen l.world) l.worker.conns
     × NoneStopped (g.W.World.seen l.fn.world) (g.W.World.seen l.world)
     × Rounded (g.W.World.seen l.fn.world) (g.W.World.seen l.world)
+    × (slab_len l.fn.worker.conns ≤ l.fn.worker.links → slab_len l.worker.conns ≤ l.worker.links)
