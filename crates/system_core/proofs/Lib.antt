@@ -7,3 +7,5 @@ pub mod Driving
 pub mod Saying
 pub mod Choosing
 pub mod Coming
+pub mod Tiling
+pub mod PicksTold

@@ -6,3 +6,4 @@ pub mod Answers
 pub mod Drives
 pub mod Takes
 pub mod Shows
+pub mod Tiles

@@ -17,6 +17,6 @@ mod tests;
 mod timeline;
 
 pub use event::{Event, Kind, Refused};
-pub use law::every_interleaving;
+pub use law::{every_interleaving, picks_lie_end_to_end};
 pub use links::{Authority, Link};
 pub use system::System;
