@@ -1,2 +1,4 @@
 pub mod Ends
 pub mod Meant
+pub mod Numbered
+pub mod Unused

@@ -9,7 +9,7 @@ use Rattle.provider_merge.specs.Merging.{DeclaresNothing, IsFileAlone}
 use Rattle.fault_text.specs.Files.{file_fault_text}
 use Rattle.conversation.specs.Plans.{Plan}
 use Rattle.generation.specs.Meaning.{plan_of}
-use Rattle.generation.specs.Built.{IsBuilt}
+use Rattle.generation.specs.Built.{IsBuilt, IsCounted}
 use Rattle.generation.specs.declared.building.Built.TheVariants as built
 use Rattle.generation.specs.declared.generation.Generation.{Generation}
 use Rattle.serve_cmd.specs.declared.loading.Found.{Found}
@@ -26,33 +26,36 @@ abbrev pub fault_line : List ℕ → List ℕ
 fault_line text = codes "fault file " ++ text ++ codes "\n"
 
 -- what a configuration is published as, and what is written: nothing where it declares nothing; a fault where it is of a
--- kind that isn't served yet; else its generation, with the number 1, and that one's text
-pub data MeansConfig (config : Config) (g : Option Generation) (text : List ℕ) : Type 0 where
-  same : DeclaresNothing config → g ≡ None → text ≡ [] → MeansConfig config g text
-  later : (m : Merged) → IsFileAlone config m → IsBuilt 1 m built.Later → g ≡ None → text ≡ fault_line (codes "config Later") → MeansConfig config g text
-  changed : (m : Merged) (built_as : Generation) → IsFileAlone config m → IsBuilt 1 m (built.Generation built_as) → g ≡ Some built_as → IsGenerationText m built_as text
-      → MeansConfig config g text
+-- kind that isn't served yet; else its generation, with the number 1, and that one's text. The shop counted `from` refusals
+-- before, and `to` after.
+pub data MeansConfig (from to : ℕ) (config : Config) (g : Option Generation) (text : List ℕ) : Type 0 where
+  same : DeclaresNothing config → g ≡ None → text ≡ [] → MeansConfig from to config g text
+  later : (m : Merged) → IsFileAlone config m → IsBuilt 1 m built.Later → g ≡ None → text ≡ fault_line (codes "config Later") → MeansConfig from to config g text
+  changed : (m : Merged) (built_as : Generation) → IsFileAlone config m → IsBuilt 1 m (built.Generation built_as) → IsCounted from to (built.Generation built_as)
+      → g ≡ Some built_as → IsGenerationText m built_as text → MeansConfig from to config g text
 
 -- the same of a file's bytes: a fault where they are no configuration
-pub data MeansBytes (bytes : List ℕ) (g : Option Generation) (text : List ℕ) : Type 0 where
-  faulty : (fault : FileFault) → fault ≢ file.Memory → IsFileConfig bytes (Err fault) → g ≡ None → text ≡ fault_line (file_fault_text fault) → MeansBytes bytes g text
-  configured : (config : Config) → IsFileConfig bytes (Ok config) → MeansConfig config g text → MeansBytes bytes g text
+pub data MeansBytes (from to : ℕ) (bytes : List ℕ) (g : Option Generation) (text : List ℕ) : Type 0 where
+  faulty : (fault : FileFault) → fault ≢ file.Memory → IsFileConfig bytes (Err fault) → g ≡ None → text ≡ fault_line (file_fault_text fault)
+      → MeansBytes from to bytes g text
+  configured : (config : Config) → IsFileConfig bytes (Ok config) → MeansConfig from to config g text → MeansBytes from to bytes g text
 
 -- without a file nothing is published and nothing written; a file that is too long is a fault
-abbrev pub Means : Found → Option Generation → List ℕ → Type 0
-Means NoFile g text = (g ≡ None) × (text ≡ [])
-Means TooLong g text = (g ≡ None) × (text ≡ fault_line (codes "too long"))
-Means (Text bytes) g text = MeansBytes bytes.items g text
+abbrev pub Means : (from to : ℕ) → Found → Option Generation → List ℕ → Type 0
+Means from to NoFile g text = (g ≡ None) × (text ≡ [])
+Means from to TooLong g text = (g ≡ None) × (text ≡ fault_line (codes "too long"))
+Means from to (Text bytes) g text = MeansBytes from to bytes.items g text
 
 -- what is published behind the empty configuration
 abbrev pub plans_by : Option Generation → List Plan
 plans_by None = []
 plans_by (Some g) = plan_of g ∷ []
 
--- the load is published as these configurations, of which the first is empty, and written as this text
-pub record IsBegun (found : Found) (text : List ℕ) (plans : List Plan) (published : ℕ) : Type 0 where
+-- The load is published as these configurations, of which the first is empty, and written as this text. The shop counted
+-- `from` refusals before, and `to` after.
+pub record IsBegun (from to : ℕ) (found : Found) (text : List ℕ) (plans : List Plan) (published : ℕ) : Type 0 where
   pub generation : Option Generation
-  pub means : Means found generation text
+  pub means : Means from to found generation text
   pub first : Plan
   pub empty : IsEmpty first
   pub plans_are : plans ≡ first ∷ plans_by generation

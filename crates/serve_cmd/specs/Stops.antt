@@ -8,8 +8,9 @@ IsLoadStop files_failed stop.Load = files_failed
 IsLoadStop files_failed stop.Write = ⊥
 IsLoadStop files_failed stop.Memory = Unit {0}
 
--- why there is no beginning: the files failed, and nothing was written; or the output failed, after a part of the text
+-- Why there is no beginning: the files failed, or memory ran out, and nothing was written; or the output failed, after a
+-- part of the text.
 abbrev pub IsStop : (files_failed out_failed silent cut : Type 0) → Stop → Type 0
 IsStop files_failed out_failed silent cut stop.Load = files_failed × silent
 IsStop files_failed out_failed silent cut stop.Write = out_failed × cut
-IsStop files_failed out_failed silent cut stop.Memory = Unit {0}
+IsStop files_failed out_failed silent cut stop.Memory = silent

@@ -6,6 +6,7 @@ ghost use Rattle.generation.specs.Meaning.{plan_of};
 ghost use Rattle.desk.specs.Kept.{desk_of, newest_plan};
 ghost use Rattle.serve_cmd.specs.Meanings.{IsBegun, IsEmpty, plans_by};
 ghost use Rattle.serve_cmd.specs.Ran.{WasBegun, WasCut};
+ghost use Rattle.serve_cmd.specs.Ready.{IsReady, IsUnused};
 ghost use Rattle.serve_cmd.specs.Stops.{IsStop};
 
 use crate::loading::{Found, Stop, load_first};
@@ -35,11 +36,12 @@ pub(crate) fn begin<F: Files, K: Sink, S: PatternShop>(
     out: &mut K,
     shop: &mut S,
 ) -> Result<Beginning, Stop>
-    ensures begun { IfOk result (λ b. WasBegun path.now (F.loads files.old) (F.loads files.new) (K.held out.old) (K.held out.new)
-        (desk_of b.desk).generations b.published) }
+    ensures begun { IfOk result (λ b. WasBegun path.now (F.loads files.old) (F.loads files.new) (S.refusals shop.old) (S.refusals shop.new)
+        (K.held out.old) (K.held out.new) (desk_of b.desk).generations b.published) }
+    ensures ready { IfOk result (λ b. IsReady b.desk b.published) }
     ensures stop { IfErr result (IsStop (Rose (F.faults files.old) (F.faults files.new)) (Rose (K.faults out.old) (K.faults out.new))
         (K.held out.new ≡ K.held out.old)
-        (WasCut path.now (F.loads files.old) (F.loads files.new) (K.held out.old) (K.held out.new))) }
+        (WasCut path.now (F.loads files.old) (F.loads files.new) (S.refusals shop.old) (S.refusals shop.new) (K.held out.old) (K.held out.new))) }
 {
     let found = load_first(alloc, path, files)?;
     let begun = publish_found(alloc, &found, shop)?;
@@ -55,7 +57,8 @@ fn publish_found<S: PatternShop>(
     found: &Found,
     shop: &mut S,
 ) -> Result<Beginning, Memory>
-    ensures { IfOk result (λ b. IsBegun found.now b.text.items (desk_of b.desk).generations b.published) }
+    ensures begun { IfOk result (λ b. IsBegun (S.refusals shop.old) (S.refusals shop.new) found.now b.text.items (desk_of b.desk).generations b.published) }
+    ensures ready { IfOk result (λ b. IsReady b.desk b.published) }
 {
     let reading = read_found(alloc, found, shop)?;
     let mut desk = empty_desk(alloc)?;
@@ -69,7 +72,8 @@ fn publish_found<S: PatternShop>(
 
 // A desk that has seen the empty configuration.
 fn empty_desk(alloc: Global) -> Result<OneDesk, Memory>
-    ensures { IfOk result (λ d. ((desk_of d).generations ≡ newest_plan d ∷ []) × IsEmpty (newest_plan d)) }
+    ensures seen { IfOk result (λ d. ((desk_of d).generations ≡ newest_plan d ∷ []) × IsEmpty (newest_plan d)) }
+    ensures unused { IfOk result (λ d. IsUnused (desk_of d)) }
 {
     let first = Arc::new(alloc, empty_generation(alloc)?)?;
     OneDesk::new(alloc, first)
@@ -83,8 +87,10 @@ fn publish_first(
 ) -> Result<u64, Memory>
     requires empty { IsEmpty (newest_plan desk.old) }
     requires number { IfSome generation (λ g. (plan_of g).number ≡ 1) }
+    requires unused { IsUnused (desk_of desk.old) }
     ensures published { IfOk result (λ n. (desk_of desk.new).generations ≡ (desk_of desk.old).generations ++ plans_by generation) }
     ensures count { IfOk result (λ n. n ≡ length (plans_by generation)) }
+    ensures ready { IfOk result (IsReady desk.new) }
 {
     match generation {
         Some(generation) => {

@@ -35,7 +35,7 @@ pub(crate) fn read_found<S: PatternShop>(
     found: &Found,
     shop: &mut S,
 ) -> Result<Reading, Memory>
-    ensures means { IfOk result (λ reading. Means found.now reading.generation reading.text.items) }
+    ensures means { IfOk result (λ reading. Means (S.refusals shop.old) (S.refusals shop.new) found.now reading.generation reading.text.items) }
     ensures number { IfOk result (λ reading. IfSome reading.generation (λ g. (plan_of g).number ≡ 1)) }
 {
     match found {
@@ -75,7 +75,7 @@ fn fault(alloc: Global, fault: &[u8]) -> Result<Reading, Memory>
 
 // What a file's bytes mean.
 fn read_bytes<S: PatternShop>(alloc: Global, bytes: &[u8], shop: &mut S) -> Result<Reading, Memory>
-    ensures means { IfOk result (λ reading. MeansBytes bytes.now reading.generation reading.text.items) }
+    ensures means { IfOk result (λ reading. MeansBytes (S.refusals shop.old) (S.refusals shop.new) bytes.now reading.generation reading.text.items) }
     ensures number { IfOk result (λ reading. IfSome reading.generation (λ g. (plan_of g).number ≡ 1)) }
 {
     match read_file_config(alloc, bytes) {
@@ -114,7 +114,7 @@ fn read_config<S: PatternShop>(
     config: Config,
     shop: &mut S,
 ) -> Result<Reading, Memory>
-    ensures means { IfOk result (λ reading. MeansConfig config reading.generation reading.text.items) }
+    ensures means { IfOk result (λ reading. MeansConfig (S.refusals shop.old) (S.refusals shop.new) config reading.generation reading.text.items) }
     ensures number { IfOk result (λ reading. IfSome reading.generation (λ g. (plan_of g).number ≡ 1)) }
 {
     if declares_nothing(&config) {

@@ -1,10 +1,13 @@
 //! The top call.
-ghost use Rattle.std.specs.Prelude.{◌≡◌, ◌≤◌, ◌<◌, IfSome, IfNone, Option, List, ℕ, vec_len};
+ghost use Rattle.std.specs.Prelude.{◌≡◌, ◌⊎◌, ◌<◌, IfSome, IfNone, None, Option, option_map, List, ℕ, vec_len};
 ghost use Rattle.px_base.specs.Bytes.{Rose};
-ghost use Rattle.serve_cmd.specs.Ran.{Ran, WasCut, IsStatus};
+ghost use Rattle.conversation.specs.Plans.{Plan};
+ghost use Rattle.desk.specs.Kept.{desk_of};
+ghost use Rattle.serve_cmd.specs.Ran.{IsMoment, Ran, WasBegun, WasCut, IsStatus};
 ghost use Rattle.serve_cmd.specs.Worlds.{AtFirst};
 
 use crate::serving::{Outcome, serve_over};
+use desk::OneDesk;
 use link_world::{ServePlan, World};
 use publisher::Files;
 use px_base::Sink;
@@ -24,6 +27,8 @@ pub struct ServeEnd<W: Drop, F: Drop, K: Drop, S: Drop> {
     pub shop: S,
     /// The end of the worker, if one ran.
     pub end: Option<WorkerEnd>,
+    /// The desk that it used.
+    pub desk: Option<OneDesk>,
     /// The number of the last generation that was published.
     pub published: u64,
 }
@@ -50,11 +55,15 @@ pub fn serve<R: Wait, W: World + Drop, F: Files + Drop, K: Sink + Drop, S: Patte
 ) -> ServeEnd<W, F, K, S>
     requires { 0 < vec_len worlds }
 
-    // Where a worker ran, the file was loaded, published and written, and each connection that it ended was served by what
-    // was published.
+    // Where a worker ran, the file was loaded, published and written, and it ran by exactly what was published: in rounds, and
+    // each connection whose end it noted was served. Each request that it noted was served by the last of what was published,
+    // no client is forgotten, each link is closed, and each pin, look and pick of the desk that it used is accounted for: to
+    // the end, or, where memory ran out, up to the last round. Where a stop was asked for, nothing more could be done right
+    // before.
     ensures ran { IfSome result.end (λ end. AtFirst worlds.items result.worlds.items (λ before now.
-        Ran plan.now.poll.file (F.loads files) (F.loads result.files) (K.held out) (K.held result.out)
-        (W.seen before) (W.seen now) end result.published)) }
+        Ran (IsMoment W.seen W.lately) plan.now.poll.file (F.loads files) (F.loads result.files)
+        (S.refusals shop) (S.refusals result.shop) (K.held out) (K.held result.out)
+        (W.seen before) (W.seen now) (option_map desk_of result.desk) end result.published)) }
     ensures idle { IfNone result.end (AtFirst worlds.items result.worlds.items (λ before now. W.seen now ≡ W.seen before)) }
     ensures status { IsStatus result.end result.status }
 
@@ -64,11 +73,20 @@ pub fn serve<R: Wait, W: World + Drop, F: Files + Drop, K: Sink + Drop, S: Patte
 
     // Then nothing was written, or a proper part of the text.
     ensures silent { result.status ≡ 5 → K.held result.out ≡ K.held out }
-    ensures cut { result.status ≡ 6 → WasCut plan.now.poll.file (F.loads files) (F.loads result.files) (K.held out) (K.held result.out) }
+    ensures cut { result.status ≡ 6 → WasCut plan.now.poll.file (F.loads files) (F.loads result.files) (S.refusals shop) (S.refusals result.shop)
+        (K.held out) (K.held result.out) }
+
+    // Where memory ran out before a worker ran, nothing was written, or all of what was published. Without a worker no desk is
+    // given back.
+    ensures short { IfNone result.end (result.status ≡ 7 → (K.held result.out ≡ K.held out)
+        ⊎ ((plans : List Plan) × WasBegun plan.now.poll.file (F.loads files) (F.loads result.files) (S.refusals shop) (S.refusals result.shop)
+        (K.held out) (K.held result.out) plans result.published)) }
+    ensures undesked { IfNone result.end (result.desk ≡ None) }
 {
     let Outcome {
         status,
         end,
+        desk,
         published,
     } = serve_over(
         rt,
@@ -86,6 +104,7 @@ pub fn serve<R: Wait, W: World + Drop, F: Files + Drop, K: Sink + Drop, S: Patte
         out,
         shop,
         end,
+        desk,
         published,
     }
 }
