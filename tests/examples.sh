@@ -129,6 +129,33 @@ expect 0 '404' "$room/without.toml" < <(head_for a /)
 expect 3 'config Later' examples/services.toml < <(head_for site.test /)
 expect 3 'config Later' examples/middlewares.toml < <(head_for api.test /v1/)
 
+# How files would be served, and why one isn't.
+answers 0 'generation 1
+router 0 r@file priority 15 enabled
+service s@file balancer node 0
+server 0 0 127.0.0.1:9000 weight 1
+end
+' 'first.toml' check examples/first.toml
+answers 0 'generation 1
+router 0 copied@file priority 19 enabled
+router 1 guarded@file priority 20 enabled
+router 2 site@file priority 17 enabled
+service copied@file mirroring node 3
+service guarded@file failover node 4
+service none-yet@file balancer node 2
+service two-versions@file weighted node 5
+service version-1@file balancer node 0
+server 0 0 10.0.0.1:8080 weight 3
+server 0 1 [2001:db8::2]:8080 weight 1
+service version-2@file balancer node 1
+server 1 0 version-2.site.test:80 weight 1
+end
+' 'services.toml' check examples/services.toml
+: >"$room/empty.toml"
+answers 0 $'generation 0\nend\n' 'an empty file' check "$room/empty.toml"
+answers 3 $'config NotToml\n' 'no TOML' check README.md
+answers 5 '' 'no file' check examples/no-such-file.toml
+
 # What `replay` answers to a script is written out here byte for byte.
 wanted='published 1
 link 0 sent HTTP/1.1 200 OK\r\nContent-Length: 2\r\n\r\nok

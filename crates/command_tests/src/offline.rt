@@ -50,6 +50,84 @@ service = \"s\"
 url = \"http://s\"
 ";
 
+const WEIGHTED: &str = "[http.routers.web]
+rule = \"Host(`example.com`) && PathPrefix(`/app`)\"
+service = \"app\"
+middlewares = [\"strip\"]
+[http.routers.secure]
+rule = \"Host(`example.com`)\"
+service = \"app\"
+[http.routers.secure.tls]
+[http.middlewares.strip.stripPrefix]
+prefixes = [\"/app\"]
+[[http.services.app.weighted.services]]
+name = \"v1\"
+weight = 3
+[[http.services.app.weighted.services]]
+name = \"v2\"
+weight = 1
+[http.services.v1.loadBalancer]
+passHostHeader = true
+[[http.services.v1.loadBalancer.servers]]
+url = \"http://10.0.0.1:8080/\"
+[[http.services.v2.loadBalancer.servers]]
+url = \"http://10.0.0.2:8080\"
+";
+
+const WEIGHTED_TEXT: &str = "generation 1
+router 0 secure@file priority 19 disabled Tls
+router 1 web@file priority 41 enabled
+service app@file weighted node 2
+service v1@file balancer node 0
+server 0 0 10.0.0.1:8080 weight 1
+service v2@file balancer node 1
+server 1 0 10.0.0.2:8080 weight 1
+middleware strip@file enabled
+end
+";
+
+const CIRCLE: &str = "[http.routers.r]
+rule = \"Path(`/`)\"
+service = \"c\"
+[[http.services.a.weighted.services]]
+name = \"b\"
+[[http.services.b.weighted.services]]
+name = \"a\"
+[[http.services.c.weighted.services]]
+name = \"a\"
+";
+
+const CIRCLE_TEXT: &str = "generation 1
+router 0 r@file priority 9 disabled BadService
+service a@file disabled Cycle
+service b@file disabled Cycle
+service c@file disabled Child
+end
+";
+
+const STOPPED: &str = "[http.routers.r]
+rule = \"Path(`/`)\"
+service = \"s\"
+middlewares = [\"a\"]
+[http.middlewares.a.chain]
+middlewares = [\"b\"]
+[http.middlewares.b.chain]
+middlewares = [\"a\"]
+[http.middlewares.c.rateLimit]
+average = 5
+[[http.services.s.loadBalancer.servers]]
+url = \"https://a\"
+";
+
+const STOPPED_TEXT: &str = "generation 1
+router 0 r@file priority 9 disabled BadService
+service s@file disabled Scheme
+middleware a@file disabled Cycle
+middleware b@file disabled Cycle
+middleware c@file disabled Unsupported
+end
+";
+
 const HEAD: &str = "GET / HTTP/1.1\r\nHost: a.test\r\n\r\n";
 
 const USAGE: &str = "route <config> [--consul <root>] [--entry <name>] [--peer <ip>]
@@ -80,6 +158,17 @@ fn route<'a>(file: &'a [u8], input: &'a [u8]) -> Call<'a> {
         file_failing: &[],
         input,
         input_failing: &[],
+        out_failing: &[],
+    }
+}
+
+fn check(file: &[u8]) -> Call<'_> {
+    Call {
+        words: &["check", "c.toml"],
+        file,
+        file_failing: &[],
+        input: b"",
+        input_failing: &[1],
         out_failing: &[],
     }
 }
@@ -125,10 +214,12 @@ fn words_of(alloc: Global, texts: &[&str]) -> Result<Vec<String>, Fail> {
 }
 
 fn blanks(alloc: Global, count: usize) -> Result<Vec<u8>, Fail> {
+    let some = [b' '; 4096];
     let mut bytes = Vec::with_capacity(alloc, count)?;
-    for _ in 0..count {
-        bytes.push(b' ')?;
+    for _ in 0..count / 4096 {
+        bytes.extend_from_slice(&some)?;
     }
+    bytes.extend_from_slice(&some[..count % 4096])?;
     Ok(bytes)
 }
 
@@ -323,6 +414,25 @@ fn limits(rt: &impl Abort, alloc: Global) -> Result<(), Fail> {
     )?;
     let input = blanks(alloc, 16_385)?;
     expect(rt, alloc, route(ONE.as_bytes(), &input), 8, "too long\n")
+}
+
+// How configurations would be served. No input is read.
+#[test]
+fn checks(rt: HostRuntime) -> Result<(), Fail> {
+    let alloc = rt.alloc();
+    expect(&rt, alloc, check(WEIGHTED.as_bytes()), 0, WEIGHTED_TEXT)?;
+    expect(&rt, alloc, check(CIRCLE.as_bytes()), 0, CIRCLE_TEXT)?;
+    expect(&rt, alloc, check(b""), 0, "generation 0\nend\n")?;
+    expect(&rt, alloc, check(b"a = 1"), 3, "config Unknown a\n")?;
+    expect(&rt, alloc, check(STOPPED.as_bytes()), 0, STOPPED_TEXT)
+}
+
+// A file of more than 1 MiB.
+#[test]
+fn limits_of_checks(rt: HostRuntime) -> Result<(), Fail> {
+    let alloc = rt.alloc();
+    let long = blanks(alloc, 1_048_577)?;
+    expect(&rt, alloc, check(&long), 8, "too long\n")
 }
 
 #[test]

@@ -35,12 +35,14 @@ fn accepted_words(rt: &impl Abort, alloc: Global) -> Result<(), Fail> {
     accepts(rt, alloc, "replay|--")?;
     accepts(rt, alloc, "route|")?;
     accepts(rt, alloc, "route|--|-a")?;
+    accepts(rt, alloc, "check|c.toml")?;
     accepts(rt, alloc, "serve|a=[::1]:443|b=10.0.0.1:0080")?;
     accepts(
         rt,
         alloc,
         "serve|--requests|0000000007|a=0.0.0.0:65535|--access=-",
     )?;
+    accepts(rt, alloc, "serve|a=10.0.0.1:80|--workers|0000000001")?;
     Ok(())
 }
 
@@ -51,6 +53,16 @@ fn refused_options(rt: &impl Abort, alloc: Global) -> Result<(), Fail> {
     refuses(rt, alloc, "route|a|--entry=")?;
     refuses(rt, alloc, "route|a|--file|b")?;
     refuses(rt, alloc, "route|a|-b")?;
+    refuses(rt, alloc, "check|a|--entry|web")?;
+    refuses(rt, alloc, "check|a|--consul|b")?;
+    refused_workers(rt, alloc)
+}
+
+fn refused_workers(rt: &impl Abort, alloc: Global) -> Result<(), Fail> {
+    refuses(rt, alloc, "serve|a=10.0.0.1:80|--workers|2")?;
+    refuses(rt, alloc, "serve|a=10.0.0.1:80|--workers|0")?;
+    refuses(rt, alloc, "serve|a=10.0.0.1:80|--workers=4294967297")?;
+    refuses(rt, alloc, "serve|a=10.0.0.1:80|--workers=x")?;
     Ok(())
 }
 
@@ -60,6 +72,8 @@ fn refused_words(rt: &impl Abort, alloc: Global) -> Result<(), Fail> {
     refuses(rt, alloc, "route")?;
     refuses(rt, alloc, "route|a|b")?;
     refuses(rt, alloc, "route|a|--peer|10.0.0")?;
+    refuses(rt, alloc, "check")?;
+    refuses(rt, alloc, "check|a|b")?;
     refuses(rt, alloc, "replay|a")?;
     Ok(())
 }

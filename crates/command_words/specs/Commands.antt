@@ -6,7 +6,8 @@ use Rattle.ip_net.specs.Texts.{Writes}
 use Rattle.link_world.specs.declared.plan.Listen.{Listen}
 use Rattle.link_world.specs.declared.plan.ServePlan.{ServePlan}
 use Rattle.command_words.specs.declared.command.Command.{Command}
-use Rattle.command_words.specs.declared.command.Command.TheVariants.{Route, Replay, Serve}
+use Rattle.command_words.specs.declared.command.Command.TheVariants.{Route, Check, Replay, Serve}
+use Rattle.command_words.specs.declared.command.CheckPlan.{CheckPlan}
 use Rattle.command_words.specs.declared.command.RoutePlan.{RoutePlan}
 use Rattle.command_words.specs.declared.sorting.Setting.{Setting}
 use Rattle.command_words.specs.declared.sorting.Sorted.{Sorted}
@@ -19,7 +20,8 @@ abbrev pub is_route_option : List ℕ → Bool
 is_route_option name = bytes_eq name (codes "entry") || bytes_eq name (codes "peer")
 
 abbrev pub is_serve_option : List ℕ → Bool
-is_serve_option name = bytes_eq name (codes "file") || bytes_eq name (codes "requests") || bytes_eq name (codes "access")
+is_serve_option name =
+    bytes_eq name (codes "file") || bytes_eq name (codes "workers") || bytes_eq name (codes "requests") || bytes_eq name (codes "access")
 
 -- each option is one of these
 abbrev pub AreOptions : (List ℕ → Bool) → List Setting → Type 0
@@ -31,6 +33,11 @@ pub record IsRoute (s : Sorted) (plan : RoutePlan) : Type 0 where
   pub config : s.others ≡ plan.config ∷ []
   pub entry : Chosen (values_of (codes "entry") s.settings) (codes "web") (λ value entry. entry ≡ value) plan.entry
   pub peer : Chosen (values_of (codes "peer") s.settings) (V4 2130706433) Writes plan.peer
+
+-- `check <config>`
+pub record IsCheck (s : Sorted) (plan : CheckPlan) : Type 0 where
+  pub none : s.settings ≡ []
+  pub config : s.others ≡ plan.config ∷ []
 
 -- an entry point's name: 1 to 255 visible bytes without `@`; it has no `=`, before the first of which it stands
 pub record IsEntry (name : List ℕ) : Type 0 where
@@ -72,8 +79,16 @@ IsTextOption name settings text = Chosen (values_of name settings) None (λ valu
 abbrev pub IsCountOption : List ℕ → List Setting → Option ℕ → Type 0
 IsCountOption name settings number = Chosen (values_of name settings) None (λ value n. IsSomeAnd n (IsCount value)) number
 
--- `serve <name>=<ip>:<port> ... [--file <path>] [--requests <n>] [--access <prefix>]`, with 1 to 16 listens of distinct
--- names; by one worker, which asks for the file every 5,000 ms
+-- a number of workers that may be served by: one, so far
+abbrev pub IsWorkers : List ℕ → ℕ → Type 0
+IsWorkers text workers = IsCount text workers × (workers ≡ 1)
+
+-- `--workers 1`, which may stand once
+abbrev pub IsWorkersOption : List Setting → ℕ → Type 0
+IsWorkersOption settings workers = Chosen (values_of (codes "workers") settings) 1 IsWorkers workers
+
+-- `serve <name>=<ip>:<port> ... [--file <path>] [--workers 1] [--requests <n>] [--access <prefix>]`, with 1 to 16 listens of
+-- distinct names; the file is asked for every 5,000 ms
 pub record IsServe (s : Sorted) (plan : ServePlan) : Type 0 where
   pub options : AreOptions is_serve_option s.settings
   pub some : 1 ≤ length s.others
@@ -83,19 +98,21 @@ pub record IsServe (s : Sorted) (plan : ServePlan) : Type 0 where
   pub file : IsTextOption (codes "file") s.settings plan.poll.file
   pub consul : plan.poll.consul ≡ None
   pub period : plan.poll.period ≡ 5000
-  pub workers : plan.workers ≡ 1
+  pub workers : IsWorkersOption s.settings plan.workers
   pub requests : IsCountOption (codes "requests") s.settings plan.requests
   pub access : IsTextOption (codes "access") s.settings plan.access
 
 -- the name of each command, which is the first word
 abbrev pub name_of : Command → List ℕ
 name_of (Route plan) = codes "route"
+name_of (Check plan) = codes "check"
 name_of Replay = codes "replay"
 name_of (Serve plan) = codes "serve"
 
 -- what the sorted words behind the name say
 abbrev pub Says : Sorted → Command → Type 0
 Says s (Route plan) = IsRoute s plan
+Says s (Check plan) = IsCheck s plan
 Says s Replay = (s.settings ≡ []) × (s.others ≡ [])
 Says s (Serve plan) = IsServe s plan
 

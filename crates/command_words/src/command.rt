@@ -8,6 +8,8 @@ use px_base::Bytes;
 pub enum Command {
     /// Tells where a request head would go.
     Route(RoutePlan),
+    /// Tells how a configuration would be served.
+    Check(CheckPlan),
     /// Runs a script of events.
     Replay,
     /// Serves clients.
@@ -23,6 +25,13 @@ pub struct RoutePlan {
     pub entry: Bytes,
     /// The address that the request comes from.
     pub peer: Ip,
+}
+
+/// What the words of `check` say.
+#[derive(Debug, Drop)]
+pub struct CheckPlan {
+    /// The path of the configuration file.
+    pub config: Bytes,
 }
 
 /// Why words give no command.

@@ -1,9 +1,10 @@
 //! The command that words are.
-ghost use Rattle.std.specs.Prelude.{◌≡◌, ◌≢◌, ◌∷◌, List, ℕ, MatchResult, MatchOption, map, string_bytes};
+ghost use Rattle.std.specs.Prelude.{◌≡◌, ◌≢◌, ◌∷◌, MatchResult, MatchOption, map, string_bytes};
 ghost use Rattle.command_words.specs.declared.command.Command.{Command as TheCommand};
 ghost use Rattle.command_words.specs.Commands.{IsCommand, Says, name_of as name_of_command};
 ghost use Rattle.command_words.specs.Names.{text_of};
 
+use crate::check::read_check;
 use crate::command::{Command, WordFault};
 use crate::route::read_route;
 use crate::serve::read_serve;
@@ -16,8 +17,9 @@ use std::alloc::Global;
 ///
 /// ```text
 /// route <config> [--entry <name>] [--peer <ip>]
+/// check <config>
 /// replay
-/// serve <name>=<ip>:<port> ... [--file <path>] [--requests <n>] [--access <prefix>]
+/// serve <name>=<ip>:<port> ... [--file <path>] [--workers 1] [--requests <n>] [--access <prefix>]
 /// ```
 pub fn read_words(alloc: Global, words: &[String]) -> Result<Command, WordFault>
     ensures { MatchResult result
@@ -37,6 +39,7 @@ pub fn read_words(alloc: Global, words: &[String]) -> Result<Command, WordFault>
 #[derive(Clone, Copy, Debug, PartialEq, Eq)]
 pub(crate) enum Name {
     Route,
+    Check,
     Replay,
     Serve,
 }
@@ -48,6 +51,8 @@ fn command_named(word: &[u8]) -> Option<Name>
 {
     if word == b"route".as_slice() {
         Some(Name::Route)
+    } else if word == b"check".as_slice() {
+        Some(Name::Check)
     } else if word == b"replay".as_slice() {
         Some(Name::Replay)
     } else if word == b"serve".as_slice() {
@@ -74,6 +79,7 @@ fn read_sorted(alloc: Global, name: Name, sorted: &Sorted) -> Result<Command, Wo
 {
     match name {
         Name::Route => Ok(Command::Route(read_route(alloc, sorted)?)),
+        Name::Check => Ok(Command::Check(read_check(alloc, sorted)?)),
         Name::Replay => read_replay(sorted),
         Name::Serve => Ok(Command::Serve(read_serve(alloc, sorted)?)),
     }

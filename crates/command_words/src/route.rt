@@ -47,7 +47,8 @@ fn is_route_option(name: &[u8]) -> bool
     name == b"entry".as_slice() || name == b"peer".as_slice()
 }
 
-fn config_of(others: &[Bytes]) -> Result<&[u8], WordFault>
+/// The path of the configuration file, which is the only other word.
+pub(crate) fn config_of(others: &[Bytes]) -> Result<&[u8], WordFault>
     ensures { MatchResult result
         (λ config. others.now ≡ config.now ∷ [])
         (λ fault. (fault ≡ WordFault.NotACommand) × ((config : List ℕ) → others.now ≢ config ∷ [])) }

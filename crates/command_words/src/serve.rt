@@ -1,7 +1,7 @@
 //! The words of `serve`.
-ghost use Rattle.std.specs.Prelude.{◌≡◌, ◌↔◌, ℕ, Option, IsTrue, MatchResult, codes};
+ghost use Rattle.std.specs.Prelude.{◌≡◌, ◌↔◌, ℕ, Option, IsTrue, MatchOption, MatchResult};
 ghost use Rattle.link_world.specs.declared.plan.ServePlan.{ServePlan as Plan};
-ghost use Rattle.command_words.specs.Commands.{IsServe, AreOptions, IsCountOption, is_serve_option as is_option_of_serve};
+ghost use Rattle.command_words.specs.Commands.{IsServe, AreOptions, IsCountOption, IsWorkers, IsWorkersOption, is_serve_option as is_option_of_serve};
 
 use crate::command::WordFault;
 use crate::listens::read_listens;
@@ -27,6 +27,7 @@ pub(crate) fn read_serve(alloc: Global, sorted: &Sorted) -> Result<ServePlan, Wo
     if !are_serve_options(settings) || others.is_empty() || others.len() > MAX_LISTENS {
         return Err(WordFault::NotACommand);
     }
+    let workers = workers_of(settings)?;
     let requests = count_of(settings, b"requests")?;
     let listens = read_listens(alloc, others)?;
     let file = text_of(alloc, settings, b"file")?;
@@ -38,7 +39,7 @@ pub(crate) fn read_serve(alloc: Global, sorted: &Sorted) -> Result<ServePlan, Wo
             consul: None,
             period: PERIOD,
         },
-        workers: 1,
+        workers,
         requests,
         access,
     })
@@ -53,7 +54,35 @@ fn are_serve_options(settings: &[Setting]) -> bool
 fn is_serve_option(name: &[u8]) -> bool
     ensures { result ≡ is_option_of_serve name.now }
 {
-    name == b"file".as_slice() || name == b"requests".as_slice() || name == b"access".as_slice()
+    name == b"file".as_slice()
+        || name == b"workers".as_slice()
+        || name == b"requests".as_slice()
+        || name == b"access".as_slice()
+}
+
+// The number of workers.
+fn workers_of(settings: &[Setting]) -> Result<u32, WordFault>
+    ensures { MatchResult result
+        (IsWorkersOption settings.now)
+        (λ fault. (workers : ℕ) → ¬ (IsWorkersOption settings.now workers)) }
+{
+    match value_of(settings, b"workers")? {
+        Some(text) => match workers(text) {
+            Some(workers) => Ok(workers),
+            None => Err(WordFault::NotACommand),
+        },
+        None => Ok(1),
+    }
+}
+
+fn workers(text: &[u8]) -> Option<u32>
+    ensures { MatchOption result ((n : ℕ) → ¬ (IsWorkers text.now n)) (IsWorkers text.now) }
+{
+    let number = count(text)?;
+    if number != 1 {
+        return None;
+    }
+    Some(1)
 }
 
 // The number of an option that may stand once.

@@ -6,11 +6,13 @@ use Rattle.dyn_config.specs.declared.merged.Merged.{Merged}
 use Rattle.service_graph.specs.Only.{IsFirstForm}
 use Rattle.file_provider.specs.Files.{WasRead, IsOver}
 use Rattle.command_words.specs.Commands.{IsCommand}
-use Rattle.command_words.specs.declared.command.Command.TheVariants.{Route, Replay}
+use Rattle.command_words.specs.declared.command.Command.TheVariants.{Route, Check, Replay}
+use Rattle.command_words.specs.declared.command.CheckPlan.{CheckPlan}
 use Rattle.command_words.specs.declared.command.RoutePlan.{RoutePlan}
 use Rattle.route_cmd.specs.Output.{line, RouteOutput, IsConfigured}
 use Rattle.route_cmd.specs.declared.answer.Stop.{Stop}
 use Rattle.route_cmd.specs.declared.answer.Stop.TheVariants.{File, Input, Memory}
+use Rattle.check_cmd.specs.Output.{CheckOutput}
 use Rattle.replay_cmd.specs.Replays.{Replayed}
 
 -- how the program is called
@@ -27,6 +29,10 @@ usage_text =
 abbrev pub IsRoute : List (List ℕ) → RoutePlan → Type 0
 IsRoute words plan = IsCommand words (Route plan)
 
+-- the words are those of `check`, with this plan
+abbrev pub IsCheck : List (List ℕ) → CheckPlan → Type 0
+IsCheck words plan = IsCommand words (Check plan)
+
 -- the words are those of `replay`
 abbrev pub IsReplay : List (List ℕ) → Type 0
 IsReplay words = IsCommand words Replay
@@ -42,8 +48,10 @@ pub data ReplayOutput (old new : ℕ) (input : Option (List ℕ)) (status : ℕ)
 
 -- the answer to the words: the usage, or the command's. `old` and `new` are what the shop counted before and after.
 pub data Output (words : List (List ℕ)) (old new : ℕ) (file input : Option (List ℕ)) (status : ℕ) (text : List ℕ) : Type 0 where
-  usage : ((plan : RoutePlan) → ¬ (IsRoute words plan)) → ¬ (IsReplay words) → status ≡ 2 → text ≡ usage_text → Output words old new file input status text
+  usage : ((plan : RoutePlan) → ¬ (IsRoute words plan)) → ((plan : CheckPlan) → ¬ (IsCheck words plan)) → ¬ (IsReplay words) → status ≡ 2 → text ≡ usage_text
+      → Output words old new file input status text
   route : (plan : RoutePlan) → IsRoute words plan → RouteOutput plan.entry plan.peer old new file input status text → Output words old new file input status text
+  check : (plan : CheckPlan) → IsCheck words plan → CheckOutput old new file status text → Output words old new file input status text
   replay : IsReplay words → ReplayOutput old new input status text → Output words old new file input status text
 
 -- why there is no answer: the file's source failed; or, under a file that is fine, the input's did; or the script's did
@@ -51,7 +59,14 @@ pub data Unread (words : List (List ℕ)) (file : Option (List ℕ)) (file_faile
   file_unread : (plan : RoutePlan) → IsRoute words plan → file_failed → Unread words file file_failed input_failed
   input_unread : (plan : RoutePlan) → IsRoute words plan → (m : Merged) → IsConfigured file m → IsFirstForm m → input_failed
       → Unread words file file_failed input_failed
+  check_unread : (plan : CheckPlan) → IsCheck words plan → file_failed → Unread words file file_failed input_failed
   script_unread : IsReplay words → input_failed → Unread words file file_failed input_failed
+
+-- why `check` has no answer: the file's source failed
+abbrev pub StopsCheck : Type 0 → Stop → Type 0
+StopsCheck file_failed File = file_failed
+StopsCheck file_failed Input = ⊥
+StopsCheck file_failed Memory = ⊤
 
 -- why `replay` has no answer: the script's source failed
 abbrev pub StopsReplay : Type 0 → Stop → Type 0

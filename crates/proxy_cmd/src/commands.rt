@@ -1,11 +1,14 @@
 //! The commands that read a file and an input and write a text.
 ghost use Rattle.std.specs.Prelude.{◌≡◌, ◌≢◌, ◌⊎◌, IfOk, IfErr, map, string_bytes, codes, true};
 ghost use Rattle.px_base.specs.Bytes.{Rose};
+ghost use Rattle.check_cmd.specs.Output.{CheckOutput};
+ghost use Rattle.command_words.specs.declared.command.CheckPlan.{CheckPlan as PlanOfCheck};
 ghost use Rattle.route_cmd.specs.Output.{RouteOutput, Stops, line};
 ghost use Rattle.replay_cmd.specs.Replays.{Replayed};
-ghost use Rattle.proxy_cmd.specs.Output.{Output, ReplayOutput, Unread, StopsReplay, StopsWords, Ends};
+ghost use Rattle.proxy_cmd.specs.Output.{IsCheck, Output, ReplayOutput, Unread, StopsCheck, StopsReplay, StopsWords, Ends};
 
 use crate::usage::usage_answer;
+use check_cmd::{CheckStop, answer_check};
 use command_words::{Command, RoutePlan, WordFault, read_words};
 use px_base::{Answer, Memory, ReadFault, Sink, Source, make_answer, read_all, write_all};
 use replay_cmd::replay;
@@ -25,7 +28,7 @@ const MAX_SCRIPT: usize = 4_194_304;
 /// |---|---|
 /// | 0 | the command was done, and its input read to the end |
 /// | 2 | the words are no command, or one that is not run here |
-/// | 3 | the file isn't a configuration, or one that isn't served yet |
+/// | 3 | the file isn't a configuration, or by `route` one that isn't served yet |
 /// | 4 | the input isn't one whole request head that is routed, or a script with a line that is refused |
 /// | 5 | a source failed |
 /// | 6 | the sink failed |
@@ -47,8 +50,9 @@ pub fn offline<C: Source, Q: Source, K: Sink, S: PatternShop>(
         (Output (map string_bytes words.now) (S.refusals shop.old) (S.refusals shop.new) (C.left config.old) (Q.left input.old))
         result }
 
-    // The input was read to its end.
-    ensures end { result ≡ 0 → Q.ended input.new ≡ true }
+    // The input was read to its end, or by `check` the file.
+    ensures end { result ≡ 0 → (Q.ended input.new ≡ true)
+        ⊎ ((plan : PlanOfCheck) × IsCheck (map string_bytes words.now) plan × (C.ended config.new ≡ true)) }
 
     // It doesn't give up by itself.
     ensures read { result ≡ 5
@@ -76,13 +80,15 @@ fn answer_words<C: Source, Q: Source, S: PatternShop>(
 ) -> Result<Answer, Stop>
     ensures told { IfOk result (λ a. Output (map string_bytes words.now) (S.refusals shop.old) (S.refusals shop.new)
         (C.left config.old) (Q.left input.old) a.status a.text.items) }
-    ensures end { IfOk result (λ a. a.status ≡ 0 → Q.ended input.new ≡ true) }
+    ensures end { IfOk result (λ a. a.status ≡ 0 → (Q.ended input.new ≡ true)
+        ⊎ ((plan : PlanOfCheck) × IsCheck (map string_bytes words.now) plan × (C.ended config.new ≡ true))) }
     ensures apart { IfOk result (λ a. (a.status ≢ 5) × (a.status ≢ 6)) }
     ensures stop { IfErr result (StopsWords (map string_bytes words.now) (C.left config.old)
         (Rose (C.faults config.old) (C.faults config.new)) (Rose (Q.faults input.old) (Q.faults input.new))) }
 {
     match read_words(alloc, words) {
         Ok(Command::Route(plan)) => answer_plan(alloc, &plan, config, input, shop),
+        Ok(Command::Check(_)) => answer_check_file(alloc, config, shop),
         Ok(Command::Replay) => answer_script(alloc, input, shop),
         Ok(Command::Serve(_)) => Ok(usage_answer(alloc)?),
         Err(WordFault::NotACommand) => Ok(usage_answer(alloc)?),
@@ -106,6 +112,24 @@ fn answer_plan<C: Source, Q: Source, S: PatternShop>(
         (Rose (Q.faults input.old) (Q.faults input.new))) }
 {
     answer_route(alloc, plan.entry.as_slice(), plan.peer, config, input, shop)
+}
+
+// The answer of `check` to a file.
+fn answer_check_file<C: Source, S: PatternShop>(
+    alloc: Global,
+    config: &mut C,
+    shop: &mut S,
+) -> Result<Answer, Stop>
+    ensures told { IfOk result (λ a. CheckOutput (S.refusals shop.old) (S.refusals shop.new) (C.left config.old) a.status a.text.items) }
+    ensures end { IfOk result (λ a. a.status ≡ 0 → C.ended config.new ≡ true) }
+    ensures apart { IfOk result (λ a. (a.status ≢ 5) × (a.status ≢ 6)) }
+    ensures stop { IfErr result (StopsCheck (Rose (C.faults config.old) (C.faults config.new))) }
+{
+    match answer_check(alloc, config, shop) {
+        Ok(answer) => Ok(answer),
+        Err(CheckStop::Unread) => Err(Stop::File),
+        Err(CheckStop::Memory) => Err(Stop::Memory),
+    }
 }
 
 // The answer of `replay` to a script.

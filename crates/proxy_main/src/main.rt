@@ -159,6 +159,10 @@ fn main(rt: HostRuntime) -> ExitCode {
             let config = ConfigFile::open(&rt, plan.config.as_slice());
             run_offline(&rt, alloc, words.as_slice(), config)
         }
+        Ok(Command::Check(plan)) => {
+            let config = ConfigFile::open(&rt, plan.config.as_slice());
+            run_offline(&rt, alloc, words.as_slice(), config)
+        }
         Err(WordFault::Memory) => NO_MEMORY,
         _ => run_offline(&rt, alloc, words.as_slice(), ConfigFile::Missing),
     };
