@@ -14,7 +14,7 @@ use std::alloc::Global;
 
 /// The configuration that a command is given: that of a TOML file of at most 1 MiB. No other provider declares anything.
 ///
-/// | What a refused one is answered by | Text |
+/// | Status of a refusal | Text |
 /// |---|---|
 /// | 3 | `config <fault>`: it is no configuration |
 /// | 8 | `too long` |

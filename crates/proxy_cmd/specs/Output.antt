@@ -80,7 +80,7 @@ StopsWords words file file_failed input_failed File = Unread words file file_fai
 StopsWords words file file_failed input_failed Input = Unread words file file_failed input_failed
 StopsWords words file file_failed input_failed Memory = ⊤
 
--- how a call ends: nothing is written, since a source failed or for want of memory; or the sink failed
+-- how a call ends: nothing is written, since a source failed or memory ran out; or the sink failed
 -- after a proper prefix of the text; or the whole text is written, and its status returned
 pub data Ends (old new : Option (List ℕ)) (unread sink_failed : Type 0) (gives : ℕ → List ℕ → Type 0) (result_ : ℕ) : Type 0 where
   not_read : result_ ≡ 5 → unread → Keeps old new → Ends old new unread sink_failed gives result_

@@ -1,5 +1,6 @@
 //! The commands that read a file and an input and write a text.
 ghost use Rattle.std.specs.Prelude.{◌≡◌, ◌≢◌, ◌⊎◌, IfOk, IfErr, map, string_bytes, codes, true};
+ghost use Rattle.std.specs.Io.KnownBytes.{Keeps};
 ghost use Rattle.px_base.specs.Bytes.{Rose};
 ghost use Rattle.check_cmd.specs.Output.{CheckOutput};
 ghost use Rattle.command_words.specs.declared.command.CheckPlan.{CheckPlan as PlanOfCheck};
@@ -54,6 +55,9 @@ pub fn offline<C: Source, Q: Source, K: Sink, S: PatternShop>(
     ensures end { result ≡ 0 → (Q.ended input.new ≡ true)
         ⊎ ((plan : PlanOfCheck) × IsCheck (map string_bytes words.now) plan × (C.ended config.new ≡ true)) }
 
+    // `check` leaves the input unread.
+    ensures unread { (plan : PlanOfCheck) → IsCheck (map string_bytes words.now) plan → Keeps (Q.left input.old) (Q.left input.new) }
+
     // It doesn't give up by itself.
     ensures read { result ≡ 5
         → Rose (C.faults config.old) (C.faults config.new) ⊎ Rose (Q.faults input.old) (Q.faults input.new) }
@@ -82,6 +86,7 @@ fn answer_words<C: Source, Q: Source, S: PatternShop>(
         (C.left config.old) (Q.left input.old) a.status a.text.items) }
     ensures end { IfOk result (λ a. a.status ≡ 0 → (Q.ended input.new ≡ true)
         ⊎ ((plan : PlanOfCheck) × IsCheck (map string_bytes words.now) plan × (C.ended config.new ≡ true))) }
+    ensures unread { (plan : PlanOfCheck) → IsCheck (map string_bytes words.now) plan → Keeps (Q.left input.old) (Q.left input.new) }
     ensures apart { IfOk result (λ a. (a.status ≢ 5) × (a.status ≢ 6)) }
     ensures stop { IfErr result (StopsWords (map string_bytes words.now) (C.left config.old)
         (Rose (C.faults config.old) (C.faults config.new)) (Rose (Q.faults input.old) (Q.faults input.new))) }

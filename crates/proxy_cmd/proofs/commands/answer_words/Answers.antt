@@ -2,7 +2,8 @@ use Rattle.std.proofs.Common.{inl, inr}
 use Rattle.std.proofs.lemmas.Result.{IfOk-weaker}
 use Rattle.command_words.specs.declared.command.Command.TheVariants.{Route, Check, Replay}
 use Rattle.proxy_cmd.specs.Output.{route, check, replay, usage}
-use Rattle.proxy_cmd.proofs.Stopped.{stops_words, stops_check, stops_script}
+use Rattle.proxy_cmd.proofs.Named.{no_route, no_replay}
+use Rattle.proxy_cmd.proofs.Stopped.{keeps_itself, stops_words, stops_check, stops_script}
 use Rattle.proxy_cmd.proofs.commands.answer_words.Goals as goal
 
 pub returns-in-Ok-Route-clause-told : goal.returns-in-Ok-Route-clause-told
@@ -50,3 +51,16 @@ pub returns-in-Ok-Check-clause-stop : goal.returns-in-Ok-Check-clause-stop
 returns-in-Ok-Check-clause-stop g c =
     let is = rw c.in-Ok-Check.field-0-is at c.in-Ok-Check.ensures in
     stops_check _ _ _ _ _ c.answer_check_file.result is c.answer_check_file.ensures.stop
+
+pub returns-in-Ok-Route-clause-unread : goal.returns-in-Ok-Route-clause-unread
+returns-in-Ok-Route-clause-unread g c =
+    let is = rw c.in-Ok-Route.field-0-is at c.in-Ok-Route.ensures in
+    λ plan w. absurd (no_route _ _ plan is w)
+
+pub returns-in-Ok-Check-clause-unread : goal.returns-in-Ok-Check-clause-unread
+returns-in-Ok-Check-clause-unread g c = λ plan w. keeps_itself (g.Q.Source.left c.args.input.now)
+
+pub returns-in-Ok-Replay-clause-unread : goal.returns-in-Ok-Replay-clause-unread
+returns-in-Ok-Replay-clause-unread g c =
+    let is = rw c.in-Ok-Replay.field-0-is at c.in-Ok-Replay.ensures in
+    λ plan w. absurd (no_replay _ plan is w)
