@@ -336,10 +336,59 @@ fn refused_files(rt: &impl Abort, alloc: Global) -> Result<(), Fail> {
         3,
         "config Twice http.routers.r.rule\n",
     )?;
-    let later = "[http.middlewares.m.addPrefix]\nprefix = \"/a\"\n";
-    told(rt, alloc, later, HEAD, 3, "config Later\n")?;
     let two = "[http.services.s.loadBalancer]\n";
     told(rt, alloc, two, HEAD, 3, "config Later\n")
+}
+
+// One router with an allow-list, behind a prefix that is added.
+const GUARDED: &str = "[http.routers.r]
+rule = \"PathPrefix(`/`)\"
+service = \"s\"
+middlewares = [\"both\"]
+[http.middlewares.both.chain]
+middlewares = [\"in\", \"near\"]
+[http.middlewares.in.addPrefix]
+prefix = \"/in\"
+[http.middlewares.near.ipAllowList]
+sourceRange = [\"10.0.0.0/8\"]
+[[http.services.s.loadBalancer.servers]]
+url = \"http://127.0.0.1:9000\"
+";
+
+// What middlewares stop, at the place in the flattened chain, and what they let pass.
+fn guarded(rt: &impl Abort, alloc: Global) -> Result<(), Fail> {
+    told(rt, alloc, GUARDED, HEAD, 0, "stop r@file 1 403\n")?;
+    let mut call = route(GUARDED.as_bytes(), HEAD.as_bytes());
+    call.words = &["route", "c.toml", "--peer", "10.1.2.3"];
+    expect(rt, alloc, call, 0, "forward r@file http://127.0.0.1:9000\n")
+}
+
+// What one middleware does; a router whose middleware has a fault takes no part.
+fn single(rt: &impl Abort, alloc: Global) -> Result<(), Fail> {
+    let near = "[http.middlewares.m.ipAllowList]\nsourceRange = [\"10.0.0.0/8\"]\n";
+    by_one(rt, alloc, near, "stop r@file 0 403\n")?;
+    let https = "[http.middlewares.m.redirectScheme]\nscheme = \"https\"\n";
+    by_one(rt, alloc, https, "stop r@file 0 302\n")?;
+    let strip = "[http.middlewares.m.stripPrefix]\nprefixes = [\"/app\"]\n";
+    by_one(rt, alloc, strip, "forward r@file http://s:80\n")?;
+    by_one(
+        rt,
+        alloc,
+        "[http.middlewares.m.basicAuth]\nx = 1\n",
+        "404\n",
+    )
+}
+
+fn by_one(rt: &impl Abort, alloc: Global, middleware: &str, text: &str) -> Result<(), Fail> {
+    let file = with_middleware(alloc, middleware)?;
+    told(rt, alloc, file.as_str(), HEAD, 0, text)
+}
+
+// One router that names the middleware `m`, its service, and this middleware.
+fn with_middleware(alloc: Global, middleware: &str) -> Result<String, Fail> {
+    Ok(format!(in alloc;
+        "[http.routers.r]\nrule = \"PathPrefix(`/`)\"\nservice = \"s\"\nmiddlewares = [\"m\"]\n{middleware}[[http.services.s.loadBalancer.servers]]\nurl = \"http://s\"\n"
+    )?)
 }
 
 // Inputs that are no request that is routed.
@@ -451,4 +500,11 @@ fn ends(rt: HostRuntime) -> Result<(), Fail> {
     usages(&rt, alloc)?;
     failures(&rt, alloc)?;
     limits(&rt, alloc)
+}
+
+#[test]
+fn middlewares(rt: HostRuntime) -> Result<(), Fail> {
+    let alloc = rt.alloc();
+    guarded(&rt, alloc)?;
+    single(&rt, alloc)
 }

@@ -3,13 +3,13 @@ use Rattle.std.specs.Prelude.{◌≡◌, ℕ, List, [], ◌∷◌, ◌++◌, cod
 use Rattle.std.specs.Io.KnownBytes.{Appends, Keeps}
 use Rattle.px_base.specs.Bytes.{AppendsLess}
 use Rattle.dyn_config.specs.declared.merged.Merged.{Merged}
-use Rattle.service_graph.specs.Only.{IsFirstForm}
 use Rattle.file_provider.specs.Files.{WasRead, IsOver}
 use Rattle.command_words.specs.Commands.{IsCommand}
 use Rattle.command_words.specs.declared.command.Command.TheVariants.{Route, Check, Replay}
 use Rattle.command_words.specs.declared.command.CheckPlan.{CheckPlan}
 use Rattle.command_words.specs.declared.command.RoutePlan.{RoutePlan}
 use Rattle.route_cmd.specs.Output.{line, RouteOutput, IsConfigured}
+use Rattle.route_cmd.specs.Services.{HaveOneServer}
 use Rattle.route_cmd.specs.declared.answer.Stop.{Stop}
 use Rattle.route_cmd.specs.declared.answer.Stop.TheVariants.{File, Input, Memory}
 use Rattle.check_cmd.specs.Output.{CheckOutput}
@@ -57,7 +57,7 @@ pub data Output (words : List (List ℕ)) (old new : ℕ) (file input : Option (
 -- why there is no answer: the file's source failed; or, under a file that is fine, the input's did; or the script's did
 pub data Unread (words : List (List ℕ)) (file : Option (List ℕ)) (file_failed input_failed : Type 0) : Type 0 where
   file_unread : (plan : RoutePlan) → IsRoute words plan → file_failed → Unread words file file_failed input_failed
-  input_unread : (plan : RoutePlan) → IsRoute words plan → (m : Merged) → IsConfigured file m → IsFirstForm m → input_failed
+  input_unread : (plan : RoutePlan) → IsRoute words plan → (m : Merged) → IsConfigured file m → HaveOneServer m → input_failed
       → Unread words file file_failed input_failed
   check_unread : (plan : CheckPlan) → IsCheck words plan → file_failed → Unread words file file_failed input_failed
   script_unread : IsReplay words → input_failed → Unread words file file_failed input_failed

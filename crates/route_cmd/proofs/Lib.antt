@@ -1,3 +1,4 @@
+pub mod Going
+pub mod Nodes
 pub mod Parted
-pub mod Services
 pub mod Stopped

@@ -12,16 +12,13 @@ use Rattle.body_codec.specs.declared.Framing.TheVariants as framing
 use Rattle.head_view.specs.Lines.{Line as Field, values_of}
 use Rattle.ip_net.specs.declared.ip.Ip.{Ip}
 use Rattle.path_norm.specs.Escapes.{HasWholeEscapes}
-use Rattle.path_norm.specs.Normal.{Normalises}
 use Rattle.http_wire.specs.Framing.{framing_by, lengths_of, encodings_of}
-use Rattle.http_wire.specs.Targets.{path_of, query_of, host_of_rules}
-use Rattle.http_wire.specs.Requests.{IsSound, IsHeadFault, IsRequestOf, host_in}
+use Rattle.http_wire.specs.Targets.{path_of}
+use Rattle.http_wire.specs.Requests.{IsSound, IsHeadFault, IsRequestOf}
 use Rattle.http_wire.specs.declared.message.Request.{Request}
 use Rattle.http_wire.specs.declared.requests.HeadFault.{HeadFault}
-use Rattle.rule_eval.specs.Pairs.{query_pairs}
-use Rattle.rule_eval.specs.Truth.{Asked}
-use Rattle.route_cmd.specs.Requests.{fields_of, HasFault, IsFaultless, IsLater, IsAsked, query_bytes}
-use Rattle.route_cmd.specs.Parts.{IsLaterBy}
+use Rattle.route_cmd.specs.Requests.{fields_of, HasFault, IsFaultless, IsLater, IsTaken, asked_by}
+use Rattle.route_cmd.specs.Parts.{IsLaterBy, asked_from}
 
 -- the parts that a scan found are those of the head
 pub record AreParts (h : RequestHead) (method target : List ℕ) (version : ℕ) (fields : List Field) : Type 0 where
@@ -90,27 +87,17 @@ not_later h m t v fs peer r parts is none (inr (inr (inl connections))) =
 not_later h m t v fs peer r parts is none (inr (inr (inr (inl old)))) = none (inr (inr (inl (is.version_is ∙ parts.version_is ∙ old))))
 not_later h m t v fs peer r parts is none (inr (inr (inr (inr head)))) = none (inr (inr (inr (is.method_is ∙ parts.method_is ∙ head))))
 
-abbrev pub asked_from : (m h p x : List ℕ) → List Field → Asked
-asked_from m h p x fs = record { method = m; host = h; path = p; pairs = query_pairs x; lines = fs }
+-- the request of the parts is that of the head
+pub taken_is : (h : RequestHead) (m t : List ℕ) (v : ℕ) (fs : List Field) (peer : Ip) (q : Request) → AreParts h m t v fs → IsRequestOf m t v fs peer q → IsTaken h peer q
+taken_is h m t v fs peer q parts is = moved (λ a b c d. IsRequestOf a b c d peer q) h m t v fs parts is
 
-same_asked : (m n h i p q : List ℕ) (x y : List ℕ) (fs gs : List Field) → m ≡ n → h ≡ i → p ≡ q → x ≡ y → fs ≡ gs
-    → asked_from m h p x fs ≡ asked_from n i q y gs
-same_asked m n h i p q x y fs gs a b c d e = cc
+same_asked : (m n : List ℕ) (q : Request) (fs gs : List Field) → m ≡ n → fs ≡ gs → asked_from m q fs ≡ asked_from n q gs
+same_asked m n q fs gs a b = cc
 
--- what rules are asked of
-pub asked_is : (h : RequestHead) (m t : List ℕ) (v : ℕ) (fs : List Field) (peer : Ip) (r : Request) (method host path query : List ℕ) (lines : List Field) → AreParts h m t v fs
-    → IsRequestOf m t v fs peer r → method ≡ m → host ≡ host_of_rules r.host → path ≡ r.path → query ≡ query_bytes r.query → lines ≡ fs
-    → IsAsked h (asked_from method host path query lines)
-asked_is h m t v fs peer r method host path query lines parts is method_is host_is path_is query_is lines_are =
-    let P : List ℕ → Type 0 = λ x. Normalises (path_of x) r.path in
-    let hosts : host ≡ host_of_rules (host_in h.target (fields_of h)) =
-    host_is ∙ ap host_of_rules (is.host_is ∙ ap (λ x. host_in x fs) parts.target_is ∙ ap (host_in h.target) parts.fields_are) in
-    let queries : query ≡ query_bytes (query_of h.target) = query_is ∙ ap query_bytes (is.query_is ∙ ap query_of parts.target_is) in (
-      r.path,
-      subst P parts.target_is is.path_is,
-      same_asked method h.method host (host_of_rules (host_in h.target (fields_of h))) path r.path query (query_bytes (query_of h.target)) lines (fields_of h)
-          (method_is ∙ parts.method_is) hosts path_is queries (lines_are ∙ parts.fields_are),
-    )
+-- what rules are asked of it
+pub asked_is : (h : RequestHead) (m t : List ℕ) (v : ℕ) (fs : List Field) (peer : Ip) (q : Request) → AreParts h m t v fs → IsRequestOf m t v fs peer q
+    → asked_from m q fs ≡ asked_by h q
+asked_is h m t v fs peer q parts is = same_asked m q.method q fs (fields_of h) (sym is.method_is) parts.fields_are
 
 -- something stands behind the head
 pub some_behind : (n : ℕ) (input : List ℕ) → n < length input → drop n input ≢ []

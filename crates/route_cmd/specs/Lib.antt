@@ -1,4 +1,4 @@
-pub mod Routes
+pub mod Services
 pub mod Requests
 pub mod Output
 pub mod Parts

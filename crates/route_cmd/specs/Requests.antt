@@ -3,11 +3,12 @@ use Rattle.std.specs.Prelude.{◌≡◌, ◌≢◌, ℕ, ◌⊎◌, List, [], �
 use Rattle.httparse.specs.Grammar.{RequestHead}
 use Rattle.httparse.specs.Spans.{name_and_value}
 use Rattle.path_norm.specs.Escapes.{HasWholeEscapes}
-use Rattle.path_norm.specs.Normal.{Normalises}
+use Rattle.ip_net.specs.declared.ip.Ip.{Ip}
 use Rattle.head_view.specs.Lines.{Line as Field, values_of}
 use Rattle.http_wire.specs.Framing.{lengths_of, encodings_of}
-use Rattle.http_wire.specs.Targets.{path_of, query_of, host_of_rules}
-use Rattle.http_wire.specs.Requests.{host_in, IsSound, IsHeadFault}
+use Rattle.http_wire.specs.Targets.{path_of, host_of_rules}
+use Rattle.http_wire.specs.Requests.{IsSound, IsHeadFault, IsRequestOf}
+use Rattle.http_wire.specs.declared.message.Request.{Request}
 use Rattle.http_wire.specs.declared.requests.HeadFault.{HeadFault}
 use Rattle.http_wire.specs.declared.requests.HeadFault.TheVariants as fault
 use Rattle.rule_eval.specs.Pairs.{query_pairs}
@@ -35,19 +36,19 @@ abbrev pub query_bytes : Option (List ℕ) → List ℕ
 query_bytes None = []
 query_bytes (Some q) = q
 
--- what rules are asked of the request of this head, with this path
-abbrev pub asked_by : RequestHead → List ℕ → Asked
-asked_by h path = record {
-  method = h.method;
-  host = host_of_rules (host_in h.target (fields_of h));
-  path = path;
-  pairs = query_pairs (query_bytes (query_of h.target));
+-- the request that the head makes, of the client with this address
+abbrev pub IsTaken : RequestHead → Ip → Request → Type 0
+IsTaken h peer q = IsRequestOf h.method h.target h.minor (fields_of h) peer q
+
+-- what rules are asked of the request of this head: of its lines as they were received
+abbrev pub asked_by : RequestHead → Request → Asked
+asked_by h q = record {
+  method = q.method;
+  host = host_of_rules q.host;
+  path = q.path;
+  pairs = query_pairs (query_bytes q.query);
   lines = fields_of h;
 }
-
--- what rules are asked of it, its path normalised
-abbrev pub IsAsked : RequestHead → Asked → Type 0
-IsAsked h asked = (path : List ℕ) × Normalises (path_of h.target) path × (asked ≡ asked_by h path)
 
 -- the name of a fault
 abbrev pub head_fault_name : HeadFault → List ℕ

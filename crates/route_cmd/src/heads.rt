@@ -8,40 +8,41 @@ ghost use Rattle.head_view.specs.Views.{view_lines};
 ghost use Rattle.http_wire.specs.Requests.{IsSound, IsRequestOf};
 ghost use Rattle.http_wire.specs.Targets.{path_of};
 ghost use Rattle.path_norm.specs.Escapes.{HasWholeEscapes};
-ghost use Rattle.service_graph.specs.Only.{IsFirstForm};
-ghost use Rattle.route_cmd.specs.Routes.{AreRoutes};
+ghost use Rattle.rule_eval.specs.Truth.{asked_of};
+ghost use Rattle.runtime_config.specs.Runtime.{IsRuntime};
+ghost use Rattle.route_cmd.specs.Services.{HaveOneServer};
 ghost use Rattle.route_cmd.specs.Requests.{HasFault, IsFaultless, query_bytes, head_fault_name, request_text};
 ghost use Rattle.route_cmd.specs.Output.{HeadAnswer, line};
-ghost use Rattle.route_cmd.specs.Parts.{IsLaterBy};
+ghost use Rattle.route_cmd.specs.Parts.{IsLaterBy, asked_from};
 
 use crate::lines::route_line;
-use crate::routes::Routes;
 use body_codec::Framing;
 use head_view::{HeadSpans, HeaderSpan, RequestView, view};
 use http_wire::{HeadFault, Request, RequestRefused, host_of_rules, take_request};
 use ip_net::Ip;
 use px_base::{Answer, Bytes, Memory, make_answer};
+use runtime_config::RuntimeConfig;
 use std::alloc::{AllocError, Global};
 
 // The answer to the head that a scan of the input found.
 pub(crate) fn answer_head(
     alloc: Global,
-    routes: &Routes,
+    config: &RuntimeConfig,
     entry: &[u8],
     peer: Ip,
     input: &[u8],
     room: &[HeaderSpan],
     spans: &HeadSpans,
 ) -> Result<Answer, Memory>
-    requires form { IsFirstForm routes.now.merged }
-    requires rows { AreRoutes routes.now.merged routes.now.table.rows }
+    requires runtime { IsRuntime config.now.merged config.now }
+    requires form { HaveOneServer config.now.merged }
     requires within { IsHeadWithin input.now room.now spans.now }
     ensures told { IfOk result (λ a. (h : RequestHead) → IsHeadAt input.now room.now spans.now h
-        → HeadAnswer routes.now.merged routes.now.table.rows entry.now peer h (drop spans.now.len input.now) a.status a.text.items) }
+        → HeadAnswer config.now.merged config.now.table.rows entry.now peer h (drop spans.now.len input.now) a.status a.text.items) }
     ensures apart { IfOk result (λ a. (a.status ≢ 5) × (a.status ≢ 6)) }
 {
     match take_request(alloc, input, room, spans, peer) {
-        Ok(request) => answer_request(alloc, routes, entry, peer, input, room, spans, &request),
+        Ok(request) => answer_request(alloc, config, entry, peer, input, room, spans, request),
         Err(RequestRefused::Head(fault)) => make_answer(alloc, 4, fault_line(fault)),
         Err(RequestRefused::Memory) => Err(AllocError),
     }
@@ -63,38 +64,53 @@ fn fault_line(fault: HeadFault) -> &'static [u8]
     }
 }
 
-// The answer to a head without a fault, whose request this is.
+// The answer to a head without a fault, which makes this request.
 fn answer_request(
     alloc: Global,
-    routes: &Routes,
+    config: &RuntimeConfig,
     entry: &[u8],
     peer: Ip,
     input: &[u8],
     room: &[HeaderSpan],
     spans: &HeadSpans,
-    request: &Request,
+    request: Request,
 ) -> Result<Answer, Memory>
-    requires form { IsFirstForm routes.now.merged }
-    requires rows { AreRoutes routes.now.merged routes.now.table.rows }
+    requires runtime { IsRuntime config.now.merged config.now }
+    requires form { HaveOneServer config.now.merged }
     requires within { IsHeadWithin input.now room.now spans.now }
     requires sound { IsSound (span_bytes input.now spans.now.method) (span_bytes input.now spans.now.target) spans.now.version (lines_at input.now (take spans.now.lines room.now)) }
     requires escapes { HasWholeEscapes (path_of (span_bytes input.now spans.now.target)) }
-    requires request { IsRequestOf (span_bytes input.now spans.now.method) (span_bytes input.now spans.now.target) spans.now.version (lines_at input.now (take spans.now.lines room.now)) peer request.now }
+    requires request { IsRequestOf (span_bytes input.now spans.now.method) (span_bytes input.now spans.now.target) spans.now.version (lines_at input.now (take spans.now.lines room.now)) peer request }
     ensures told { IfOk result (λ a. (h : RequestHead) → IsHeadAt input.now room.now spans.now h
-        → HeadAnswer routes.now.merged routes.now.table.rows entry.now peer h (drop spans.now.len input.now) a.status a.text.items) }
+        → HeadAnswer config.now.merged config.now.table.rows entry.now peer h (drop spans.now.len input.now) a.status a.text.items) }
     ensures apart { IfOk result (λ a. (a.status ≢ 5) × (a.status ≢ 6)) }
 {
-    let host = host_of_rules(request.host.as_slice());
-    let query = query_of(&request.query);
-    let view = view(input, room, spans, host, request.path.as_slice(), query);
-    if is_later(request, &view) {
+    let view = view_of(input, room, spans, &request);
+    if is_later(&request, &view) {
         return make_answer(alloc, 4, b"request Later\n");
     }
     if spans.len < input.len() {
         return make_answer(alloc, 4, b"request Trailing\n");
     }
-    let text = route_line(alloc, routes, entry, &view, peer)?;
+    let winner = config.winner(alloc, entry, &view, peer)?;
+    let text = route_line(alloc, config, winner, request, peer)?;
     Ok(Answer { status: 0, text })
+}
+
+// What rules see of the head and of its request.
+fn view_of<'a>(
+    input: &'a [u8],
+    room: &'a [HeaderSpan],
+    spans: &HeadSpans,
+    request: &'a Request,
+) -> RequestView<'a>
+    requires { IsHeadWithin input.now room.now spans.now }
+    ensures lines { view_lines result ≡ lines_at input.now (take spans.now.lines room.now) }
+    ensures asked { asked_of result ≡ asked_from (span_bytes input.now spans.now.method) request.now (lines_at input.now (take spans.now.lines room.now)) }
+{
+    let host = host_of_rules(request.host.as_slice());
+    let query = query_of(&request.query);
+    view(input, room, spans, host, request.path.as_slice(), query)
 }
 
 // The bytes of a query, which may be absent.

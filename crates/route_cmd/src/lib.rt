@@ -6,7 +6,7 @@ mod heads;
 mod lines;
 mod requests;
 mod route;
-mod routes;
+mod services;
 
 pub use answer::Stop;
 pub use route::{answer_route, fault_answer};

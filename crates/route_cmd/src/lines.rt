@@ -1,93 +1,141 @@
 //! The line that `route` writes for a request.
-ghost use Rattle.std.specs.Prelude.{◌≡◌, ℕ, List, Contains, Any, IfOk, MatchOption, slice_get, Some, true};
-ghost use Rattle.rule_eval.specs.Truth.{asked_of};
-ghost use Rattle.dyn_config.specs.declared.merged.Entry.{Entry as EntryOf};
-ghost use Rattle.dyn_config.specs.declared.service.ServiceDef.{ServiceDef as Def};
-ghost use Rattle.service_graph.specs.Only.{IsFirstForm};
-ghost use Rattle.router_table.specs.declared.row.Row.{Row as RowOf};
-ghost use Rattle.route_cmd.specs.Routes.{AreRoutes};
-ghost use Rattle.route_cmd.specs.Output.{Routed, IsServerOf, LeadsTo, forward_text};
-ghost use Rattle.route_cmd.specs.Parts.{HasService};
+ghost use Rattle.std.specs.Prelude.{◌≡◌, [], ◌∷◌, ℕ, List, length, IfOk, IfSome, slice_get, Some};
+ghost use Rattle.rule_eval.specs.Truth.{Asked};
+ghost use Rattle.router_table.specs.Winner.{IsWinner, WinnerIs};
+ghost use Rattle.router_table.specs.declared.row.Row.{Row as RowAt};
+ghost use Rattle.ip_net.specs.declared.ip.Ip.{Ip as Peer};
+ghost use Rattle.http_wire.specs.declared.message.Request.{Request as Taken};
+ghost use Rattle.middleware_chain.specs.Folds.{Through};
+ghost use Rattle.runtime_config.specs.Runtime.{IsEnabledAt, IsRuntime, stages_of};
+ghost use Rattle.route_cmd.specs.Services.{HaveOneServer};
+ghost use Rattle.route_cmd.specs.Output.{Routed, IsServerOf, forward_text, stop_text};
+ghost use Rattle.route_cmd.specs.Parts.{IsOfOne, IsOnly};
 
-use crate::routes::Routes;
-use dyn_config::{Entry, Merged, ServiceDef};
-use head_view::RequestView;
+use http_wire::Request;
 use ip_net::Ip;
+use middleware_chain::Flow;
 use px_base::{Memory, Server, print_decimal};
-use router_table::{RouterState, Row, rows, winner};
-use service_graph::only_server;
+use runtime_config::RuntimeConfig;
+use service_nodes::{Node, NodeKind};
 use std::alloc::Global;
 
-// The line for a request: where it would be forwarded, or `404`.
+// The line for a request that the router in this row gets: where it would be forwarded or stopped, or `404` where there is none.
 pub(crate) fn route_line(
     alloc: Global,
-    routes: &Routes,
-    entry: &[u8],
-    view: &RequestView<'_>,
+    config: &RuntimeConfig,
+    winner: Option<u32>,
+    request: Request,
     peer: Ip,
 ) -> Result<Vec<u8>, Memory>
-    requires form { IsFirstForm routes.now.merged }
-    requires rows { AreRoutes routes.now.merged routes.now.table.rows }
-    ensures { IfOk result (λ text. Routed routes.now.merged routes.now.table.rows entry.now (asked_of view.now) peer text.items) }
+    requires runtime { IsRuntime config.now.merged config.now }
+    requires form { HaveOneServer config.now.merged }
+    requires enabled { IfSome winner (IsEnabledAt config.now.table.rows) }
+    ensures { IfOk result (λ text. (entry : List ℕ) (asked : Asked) → WinnerIs config.now.table.rows entry asked peer winner
+        → Routed config.now.merged config.now.table.rows entry asked request peer text.items) }
 {
-    match winner(alloc, &routes.table, entry, view, peer)? {
-        Some(number) => {
-            let row = &rows(&routes.table)[number as usize];
-            let server = server_of(alloc, &routes.merged, row)?;
-            forward_line(alloc, row, &server)
-        }
+    match winner {
+        Some(number) => winner_line(alloc, config, number, request, peer),
         None => Vec::from_slice(alloc, b"404\n"),
     }
 }
 
-// The one server of a row's service.
-fn server_of(alloc: Global, merged: &Merged, row: &Row) -> Result<Server, Memory>
-    requires form { IsFirstForm merged.now }
-    requires service { HasService merged.now row.now }
-    ensures { IfOk result (IsServerOf merged.now row.now) }
+// The line for a request that the router in this row gets.
+fn winner_line(
+    alloc: Global,
+    config: &RuntimeConfig,
+    number: u32,
+    request: Request,
+    peer: Ip,
+) -> Result<Vec<u8>, Memory>
+    requires runtime { IsRuntime config.now.merged config.now }
+    requires form { HaveOneServer config.now.merged }
+    requires enabled { IsEnabledAt config.now.table.rows number }
+    ensures { IfOk result (λ text. (entry : List ℕ) (asked : Asked) → IsWinner config.now.table.rows entry asked peer number
+        → Routed config.now.merged config.now.table.rows entry asked request peer text.items) }
 {
-    match service_of(merged.services.as_slice(), row) {
-        Some(service) => match only_server(alloc, &service.def)? {
-            Some(server) => Ok(server),
-            None => unreachable!(),
-        },
+    let flow = config.apply(alloc, number, request, peer)?;
+    flow_line(alloc, config, number, &flow)
+}
+
+// The line for what the middlewares of the router in this row made of a request.
+fn flow_line(
+    alloc: Global,
+    config: &RuntimeConfig,
+    number: u32,
+    flow: &Flow,
+) -> Result<Vec<u8>, Memory>
+    requires runtime { IsRuntime config.now.merged config.now }
+    requires form { HaveOneServer config.now.merged }
+    requires enabled { IsEnabledAt config.now.table.rows number }
+    ensures { IfOk result (λ text. (entry : List ℕ) (asked : Asked) (request : Taken) (peer : Peer) → IsWinner config.now.table.rows entry asked peer number
+        → Through (stages_of config.now number) request peer flow.now → Routed config.now.merged config.now.table.rows entry asked request peer text.items) }
+{
+    let router = name_at(config, number);
+    match flow {
+        Flow::Stop { place, status, .. } => stop_line(alloc, router, *place, *status),
+        Flow::Pass { .. } => forward_line(alloc, router, server_at(config, number)),
+    }
+}
+
+// The name of the router in a row.
+fn name_at(config: &RuntimeConfig, number: u32) -> &[u8]
+    requires { IsEnabledAt config.now.table.rows number }
+    ensures { (row : RowAt) → slice_get config.now.table.rows number ≡ Some row → result.now ≡ row.name }
+{
+    config.rows()[number as usize].name.as_slice()
+}
+
+// The one server of the service of the router in a row.
+fn server_at(config: &RuntimeConfig, number: u32) -> &Server
+    requires runtime { IsRuntime config.now.merged config.now }
+    requires form { HaveOneServer config.now.merged }
+    requires enabled { IsEnabledAt config.now.table.rows number }
+    ensures { (row : RowAt) → slice_get config.now.table.rows number ≡ Some row → IsServerOf config.now.merged row result.now }
+{
+    match config.node(number) {
+        Some(at) => only_server(at.node),
         None => unreachable!(),
     }
 }
 
-// The service of an enabled row.
-fn service_of<'a>(services: &'a [Entry<ServiceDef>], row: &Row) -> Option<&'a Entry<ServiceDef>>
-    ensures { MatchOption result
-        ((name : List ℕ) → LeadsTo row.now.state name → ¬ (Any (λ (e : EntryOf Def). e.name ≡ name) services.now))
-        (λ e. Contains services.now e.now × LeadsTo row.now.state e.now.name) }
+// The one server of a node.
+fn only_server(node: &Node) -> &Server
+    requires { IsOfOne node.now.kind }
+    ensures { IsOnly node.now.kind result.now }
 {
-    match &row.state {
-        RouterState::Enabled { service, .. } => service_named(services, service.as_slice()),
-        RouterState::Disabled(_) => None,
+    match &node.kind {
+        NodeKind::Balancer { servers, .. } => only_of(servers.as_slice()),
+        NodeKind::Weighted { .. } => unreachable!(),
+        NodeKind::Mirroring { .. } => unreachable!(),
+        NodeKind::Failover { .. } => unreachable!(),
     }
 }
 
-fn service_named<'a>(
-    services: &'a [Entry<ServiceDef>],
-    name: &[u8],
-) -> Option<&'a Entry<ServiceDef>>
-    ensures { MatchOption result
-        (¬ (Any (λ (e : EntryOf Def). e.name ≡ name.now) services.now))
-        (λ e. Contains services.now e.now × (e.now.name ≡ name.now)) }
+fn only_of(servers: &[Server]) -> &Server
+    requires { length servers.now ≡ 1 }
+    ensures { servers.now ≡ result.now ∷ [] }
 {
-    for service in services {
-        if service.name.as_slice() == name {
-            return Some(service);
-        }
-    }
-    None
+    &servers[0]
 }
 
-fn forward_line(alloc: Global, row: &Row, server: &Server) -> Result<Vec<u8>, Memory>
-    ensures { IfOk result (λ text. text.items ≡ forward_text row.now.name server.now.host server.now.port) }
+fn stop_line(alloc: Global, router: &[u8], place: u32, status: u16) -> Result<Vec<u8>, Memory>
+    ensures { IfOk result (λ text. text.items ≡ stop_text router.now place status) }
+{
+    let mut text = Vec::from_slice(alloc, b"stop ")?;
+    text.extend_from_slice(router)?;
+    text.extend_from_slice(b" ")?;
+    print_decimal(place as u64, &mut text)?;
+    text.extend_from_slice(b" ")?;
+    print_decimal(status as u64, &mut text)?;
+    text.extend_from_slice(b"\n")?;
+    Ok(text)
+}
+
+fn forward_line(alloc: Global, router: &[u8], server: &Server) -> Result<Vec<u8>, Memory>
+    ensures { IfOk result (λ text. text.items ≡ forward_text router.now server.now.host server.now.port) }
 {
     let mut text = Vec::from_slice(alloc, b"forward ")?;
-    text.extend_from_slice(row.name.as_slice())?;
+    text.extend_from_slice(router)?;
     text.extend_from_slice(b" http://")?;
     text.extend_from_slice(server.host.as_slice())?;
     text.extend_from_slice(b":")?;

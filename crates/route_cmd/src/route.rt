@@ -1,29 +1,30 @@
 //! The command.
-ghost use Rattle.std.specs.Prelude.{◌≡◌, ◌≢◌, ℕ, List, Option, Ok, true, IsTrue, ◌↔◌, IfOk, IfErr};
+ghost use Rattle.std.specs.Prelude.{◌≡◌, ◌≢◌, ◌<◌, ◌^◌, ℕ, List, Option, Ok, true, length, IsTrue, ◌↔◌, IfOk, IfErr};
 ghost use Rattle.px_base.specs.Bytes.{Rose};
 ghost use Rattle.file_provider.specs.Files.{IsFileConfig, WasRead, file_limit};
 ghost use Rattle.file_provider.specs.declared.config.FileFault.TheVariants.{Memory as NoMemory};
-ghost use Rattle.route_cmd.specs.Output.{RouteOutput, Stops, line};
+ghost use Rattle.route_cmd.specs.Services.{HaveOneServer};
+ghost use Rattle.route_cmd.specs.Output.{MergedOutput, RouteOutput, Stops, StopsInput, line};
 ghost use Rattle.fault_text.specs.Files.{file_fault_text};
 
 use crate::answer::Stop;
 use crate::requests::answer_source;
-use crate::routes::routes_of;
-use dyn_config::Config;
+use crate::services::have_one_server;
+use dyn_config::{Config, Merged};
 use fault_text::push_file_fault;
 use file_provider::{FileFault, PollFault, poll_file};
 use ip_net::Ip;
 use provider_merge::merge_file;
 use px_base::{Answer, Memory, Source, make_answer};
 use rule_eval::PatternShop;
-use service_graph::is_first_form;
+use runtime_config::build_runtime;
 use std::alloc::Global;
 
 /// The answer of `route` to a request head, which comes at this entry point from this peer, under the configuration of a file.
 ///
 /// | Status | Text |
 /// |---|---|
-/// | 0 | `404`, or `forward <router> http://<host>:<port>` |
+/// | 0 | `404`, or `stop <router> <place> <status>`, or `forward <router> http://<host>:<port>` |
 /// | 3 | `config <fault>`: the file is no configuration, or one that isn't served yet |
 /// | 4 | `request <fault>`: the input isn't one whole head that is routed |
 /// | 8 | `too long`: the file has more than 1 MiB, or the input more than 16,384 bytes |
@@ -97,9 +98,27 @@ fn answer_config<Q: Source, S: PatternShop>(
         → Stops file ⊥ (Rose (Q.faults input.old) (Q.faults input.new)) stop) }
 {
     let merged = merge_file(alloc, config)?;
-    if !is_first_form(alloc, &merged)? {
+    answer_merged(alloc, entry, peer, merged, input, shop)
+}
+
+// The answer under what the configuration's provider declares.
+fn answer_merged<Q: Source, S: PatternShop>(
+    alloc: Global,
+    entry: &[u8],
+    peer: Ip,
+    merged: Merged,
+    input: &mut Q,
+    shop: &mut S,
+) -> Result<Answer, Stop>
+    requires few { length merged.services < 2 ^ 32 }
+    ensures told { IfOk result (λ a. MergedOutput entry.now peer (S.refusals shop.old) (S.refusals shop.new) merged (Q.left input.old) a.status a.text.items) }
+    ensures end { IfOk result (λ a. a.status ≡ 0 → Q.ended input.new ≡ true) }
+    ensures apart { IfOk result (λ a. (a.status ≢ 5) × (a.status ≢ 6)) }
+    ensures stop { IfErr result (StopsInput (HaveOneServer merged × Rose (Q.faults input.old) (Q.faults input.new))) }
+{
+    if !have_one_server(merged.services.as_slice()) {
         return Ok(make_answer(alloc, 3, b"config Later\n")?);
     }
-    let routes = routes_of(alloc, merged, shop)?;
-    answer_source(alloc, &routes, entry, peer, input)
+    let config = build_runtime(alloc, merged, shop)?;
+    answer_source(alloc, &config, entry, peer, input)
 }
