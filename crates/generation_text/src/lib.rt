@@ -8,7 +8,7 @@ mod rows;
 mod services;
 mod whole;
 
-pub use law::services_are_told;
+pub use law::{middlewares_are_told, routers_are_told, services_are_told};
 pub use rows::push_rows;
 pub use services::services_text;
 pub use whole::generation_text;
