@@ -125,9 +125,87 @@ refused bits 'Compile Address 0'
 grep -v '^priority = -9223372036854775808$' "$room/rules.toml" | sed '/^\[http.routers.least\]/,/^service/d' >"$room/without.toml"
 expect 0 '404' "$room/without.toml" < <(head_for a /)
 
-# Files that are read and not served yet.
+# A file that is read and not served yet.
 expect 3 'config Later' examples/services.toml < <(head_for site.test /)
-expect 3 'config Later' examples/middlewares.toml < <(head_for api.test /v1/)
+
+# Middlewares, each kind by its own file: where a request goes, or which of them answers it, by its place in the list that
+# stands there once chains are replaced by their members.
+goes() { expect 0 "forward $1@file http://10.0.0.1:8080" "examples/$2.toml" "${@:5}" < <(head_for "$3" "$4"); }
+stops() { expect 0 "stop $1@file $2 $3" "examples/$4.toml" "${@:7}" < <(head_for "$5" "$6"); }
+goes api add-prefix api.test /users
+goes api strip-prefix a.test /v2/users
+goes app replace-path app.test /any/page
+goes api replace-path-regex a.test /users/17/edit
+goes api headers api.test /
+goes upload buffering a.test /upload
+goes admin ip-allow-list a.test /admin --peer 10.1.2.3
+goes admin ip-allow-list a.test /admin --peer 192.168.1.7
+goes admin ip-allow-list a.test /admin --peer ::ffff:10.1.2.3
+goes admin ip-allow-list a.test /admin --peer 2001:db8::1
+stops admin 0 403 ip-allow-list a.test /admin
+stops admin 0 403 ip-allow-list a.test /x/../%61dmin --peer 192.168.1.8
+stops admin 0 403 ip-allow-list a.test /admin --peer ::a01:203
+stops admin 0 403 ip-allow-list a.test /admin --peer 2001:db9::1
+goes admin chain a.test /admin --peer 10.1.2.3
+stops admin 1 403 chain a.test /admin
+stops plain 0 301 redirect-scheme plain.test '/x?q=1'
+stops moved 0 302 redirect-scheme moved.test:8443 /
+expect 0 'stop plain@file 0 308' examples/redirect-scheme.toml < <(head_for plain.test / '' DELETE)
+expect 0 'stop moved@file 0 307' examples/redirect-scheme.toml < <(head_for moved.test / '' OPTIONS)
+goes there redirect-scheme there.test:8080 '/x?q=1'
+stops there 0 302 redirect-scheme there.test '/x?q=1'
+stops old 0 302 redirect-regex old.test '/a?b'
+goes old redirect-regex new.test '/a?b'
+stops api 0 403 middlewares api.test /v1/
+goes api middlewares api.test /v1/ --peer 10.1.2.3
+stops plain 0 301 middlewares plain.test /
+
+# What middlewares make of a request shows in a redirect that stands behind them, and is asked of it.
+# becomes URL HOST TARGET [PLACE]: behind the middleware `it` on standard input the URL is this one.
+becomes() {
+  local pattern
+  pattern=$(sed 's/[].[?*+(){}|^$\]/\\&/g' <<<"$1")
+  {
+    printf '[http.routers.r]\nrule = "PathPrefix(`/`)"\nservice = "s"\nmiddlewares = ["it", "shown"]\n'
+    printf '[[http.services.s.loadBalancer.servers]]\nurl = "http://10.0.0.1"\n'
+    printf "[http.middlewares.shown.redirectRegex]\nregex = '^%s\$'\nreplacement = 'http://shown.test/'\n" "$pattern"
+    cat
+  } >"$room/it.toml"
+  expect 0 "stop r@file ${4:-1} 302" "$room/it.toml" < <(head_for "$2" "$3")
+}
+# is KIND OPTIONS: the middleware `it` of this kind.
+is() { printf '[http.middlewares.it.%s]\n%s\n' "$1" "$2"; }
+becomes 'http://a.test/internal/a?x' a.test '/a?x' < <(is addPrefix 'prefix = "/internal"')
+becomes 'http://a.test/in/a' a.test /a < <(is addPrefix 'prefix = "in"')
+becomes 'http://a.test/a%20b%3F%23/a' a.test /a < <(is addPrefix 'prefix = "/a b?#"')
+becomes 'http://a.test/?x' a.test '/app?x' < <(is stripPrefix 'prefixes = ["/app"]')
+becomes 'http://a.test/le' a.test /apple < <(is stripPrefix 'prefixes = ["/app", "/appl"]')
+becomes 'http://a.test/x' a.test /app/x < <(is stripPrefix 'prefixes = ["/b", "/app", "/app/x"]')
+becomes 'http://a.test/other' a.test /other < <(is stripPrefix 'prefixes = ["/app"]')
+becomes 'http://a.test:8080/index.html?x' a.test:8080 '/a/b?x' < <(is replacePath 'path = "/index.html"')
+becomes 'http://a.test/edit-user/17' a.test /users/17/edit < <(is replacePathRegex "regex = '^/users/([0-9]+)/edit\$'"$'\nreplacement = "/edit-user/$1"')
+becomes 'http://a.test/bxb' a.test /axa < <(is replacePathRegex $'regex = "a"\nreplacement = "b"')
+becomes 'http://a.test/' a.test /axa < <(is replacePathRegex $'regex = "^.*$"\nreplacement = ""')
+becomes 'http://a.test/axa' a.test /axa < <(is replacePathRegex $'regex = "^a"\nreplacement = "b"')
+becomes 'http://b.test/a' a.test /a < <(is headers.customRequestHeaders 'Host = "b.test"')
+becomes 'http://a.test/a' a.test /a < <(is headers.customResponseHeaders 'Host = "b.test"')
+becomes 'http://a.test/internal/users' a.test /v1/users 2 < <(
+  is chain 'middlewares = ["cut", "put"]'
+  printf '[http.middlewares.cut.stripPrefix]\nprefixes = ["/v1"]\n[http.middlewares.put.addPrefix]\nprefix = "/internal"\n')
+
+# A middleware that can't be used disables the router that names it, and no other.
+disables() {
+  { cat; printf '[http.routers.with]\nrule = "PathPrefix(`/`)"\nservice = "s"\nmiddlewares = ["it"]\n'
+    printf '[http.routers.without]\nrule = "Path(`/x`)"\nservice = "s"\n[[http.services.s.loadBalancer.servers]]\nurl = "http://s"\n'; } >"$room/it.toml"
+  expect 0 '404' "$room/it.toml" < <(head_for a.test /)
+  expect 0 'forward without@file http://s:80' "$room/it.toml" < <(head_for a.test /x)
+}
+disables < <(is ipAllowList 'sourceRange = ["10.0.0.0/33"]')
+disables < <(is stripPrefix $'prefixes = ["/x"]\nforceSlash = true')
+disables < <(is headers.customRequestHeaders 'Content-Length = "0"')
+disables < <(is chain 'middlewares = ["it"]')
+disables < <(is chain 'middlewares = ["nowhere"]')
+disables < <(is basicAuth 'users = []')
 
 # How files would be served, and why one isn't.
 answers 0 'generation 1

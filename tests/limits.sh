@@ -58,7 +58,7 @@ at_limits_of_files() {
   expect 0 "$found" '500 services' < <(first; many 499 "$services")
   expect 3 'config TooMany http.services' '501 services' < <(first; many 500 "$services")
   local middlewares=$'[http.middlewares.m@.addPrefix]\nprefix = "/a"\n'
-  expect 3 'config Later' '500 middlewares' < <(first; many 500 "$middlewares")
+  expect 0 "$found" '500 middlewares' < <(first; many 500 "$middlewares")
   expect 3 'config TooMany http.middlewares' '501 middlewares' < <(first; many 501 "$middlewares")
   first > "$room/first"
   local rest=$((mib - $(wc -c < "$room/first")))
@@ -150,9 +150,9 @@ costly_tables() {
   expect 0 '404' 'tables that are not read' < <(filled '' $'tcp.k@.a=1\n' '')
   expect 3 'config Later' 'servers' < <(filled $'[http.services.s.loadBalancer]\nservers=[' '{url="u"},' $']\n')
   expect 3 'config Later' 'mirrors' < <(filled $'[http.services.s.mirroring]\nservice="s"\nmirrors=[' '{name="u"},' $']\n')
-  expect 3 'config Later' 'prefixes' < <(filled $'[http.middlewares.m.stripPrefix]\nprefixes=[' '"/@",' $']\n')
-  expect 3 'config Later' 'field lines' < <(filled $'[http.middlewares.m.headers.customRequestHeaders]\n' $'k@=""\n' '')
-  expect 3 'config Later' 'options that are not supported' < <(filled $'[http.middlewares.m.headers]\n' $'k@=1\n' '')
+  expect 0 '404' 'prefixes' < <(filled $'[http.middlewares.m.stripPrefix]\nprefixes=[' '"/@",' $']\n')
+  expect 0 '404' 'field lines' < <(filled $'[http.middlewares.m.headers.customRequestHeaders]\n' $'k@=""\n' '')
+  expect 0 '404' 'options that are not supported' < <(filled $'[http.middlewares.m.headers]\n' $'k@=1\n' '')
 }
 
 # Rules that ask much of each request. All of them are asked: the request goes to the router that is asked last, by the pair
