@@ -17,7 +17,7 @@ first_byte (b ∷ bytes) = b
 
 -- words are of one command's name
 named_as : (words : List (List ℕ)) (c d : Command) → IsCommand words c → IsCommand words d → name_of c ≡ name_of d
-named_as words c d (rest, s, is, says) (rest', s', is', says') = ap first_word (sym is ∙ is')
+named_as words c d (rest, s, is, sorts, says) (rest', s', is', sorts', says') = ap first_word (sym is ∙ is')
 
 pub no_route : (words : List (List ℕ)) (plan : RoutePlan) (other : CheckPlan) → IsRoute words plan → IsCheck words other → ⊥
 no_route words plan other r k = let e : 114 ≡ 99 = ap first_byte (named_as words (Route plan) (Check other) r k) in let f : ⊥ = omega (arith, e) in f

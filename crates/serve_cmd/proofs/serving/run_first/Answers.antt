@@ -30,9 +30,13 @@ returns-clause-served g c =
     c.run_worker-end.ensures.closed c.run_worker-end.ensures.owned c.run_worker-end.ensures.distinct
     (λ why. let s = c.run_worker-end.ensures.settled why in (g.W.World.seen s.0, g.W.World.lately s.0, (s.0, refl, refl), (s.1, s.2, s.3, s.4)))
     (end_by before now c.run_worker-end.result c.run_worker-end.ensures.stopped c.run_worker-end.ensures.fault)
-    (λ not_memory. (c.run_worker-end.new.worker.conns, c.run_worker-end.ensures.ended, record {
-      from = desk_of d;
-      generations = refl;
-      unused = c.requires;
-      accounts = c.run_worker-end.ensures.accounts before (desk_of d) not_memory (c.in_ok-worker.ensures.accounts before (desk_of d));
-    })))
+    (λ not_memory. (
+      c.run_worker-end.new.worker.conns,
+      c.run_worker-end.ensures.ended,
+      record {
+        from = desk_of d;
+        generations = refl;
+        unused = c.requires;
+        accounts = c.run_worker-end.ensures.accounts before (desk_of d) not_memory (c.in_ok-worker.ensures.accounts before (desk_of d));
+      },
+    )))
