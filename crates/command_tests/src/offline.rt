@@ -358,8 +358,14 @@ url = \"http://127.0.0.1:9000\"
 // What middlewares stop, at the place in the flattened chain, and what they let pass.
 fn guarded(rt: &impl Abort, alloc: Global) -> Result<(), Fail> {
     told(rt, alloc, GUARDED, HEAD, 0, "stop r@file 1 403\n")?;
-    let mut call = route(GUARDED.as_bytes(), HEAD.as_bytes());
-    call.words = &["route", "c.toml", "--peer", "10.1.2.3"];
+    let call = Call {
+        words: &["route", "c.toml", "--peer", "10.1.2.3"],
+        file: GUARDED.as_bytes(),
+        file_failing: &[],
+        input: HEAD.as_bytes(),
+        input_failing: &[],
+        out_failing: &[],
+    };
     expect(rt, alloc, call, 0, "forward r@file http://127.0.0.1:9000\n")
 }
 
