@@ -4,10 +4,10 @@
 source "$(dirname "$0")/lib/common.sh"
 needs python3
 build
-python3 - "$proxy" <<'PYTHON'
+python3 - "$proxy" "$(free_port)" <<'PYTHON'
 import os, socket, subprocess, sys, tempfile, threading, time
 
-proxy = sys.argv[1]
+proxy, port = sys.argv[1], int(sys.argv[2])
 LINKS = 256
 REPLY = b"HTTP/1.1 200 OK\r\nContent-Length: 5\r\n\r\nhello"
 REQUEST = b"GET /page HTTP/1.1\r\nHost: a.test\r\n\r\n"
@@ -63,9 +63,6 @@ def connect():
 
 listener = socket.create_server(("127.0.0.1", 0), backlog=512)
 threading.Thread(target=backend, args=(listener,), daemon=True).start()
-spare = socket.create_server(("127.0.0.1", 0))
-port = spare.getsockname()[1]
-spare.close()
 with tempfile.TemporaryDirectory() as room:
     config = os.path.join(room, "config.toml")
     with open(config, "w") as file:

@@ -9,10 +9,8 @@ requests=${1:-50000}
 needs python3
 build
 
-read -r port nobody < <(python3 -c 'import socket
-held = [socket.socket() for _ in range(2)]
-for s in held: s.bind(("127.0.0.1", 0))
-print(*[s.getsockname()[1] for s in held])')
+port=$(free_port)
+nobody=$(free_port)
 cat >"$room/config.toml" <<TOML
 [http.routers.a]
 rule = "Path(\`/a\`)"

@@ -62,28 +62,44 @@ answers() {
 bytes() { head -c "$1" /dev/zero | tr '\0' "$2"; }
 
 # start PORT WORD..: runs the words in the background, with what they write in $room/PORT.log, waits until something listens
-# on the port, and leaves their process in `pid`.
+# on the port, and leaves their process in `pid`. A program that couldn't have the port (status 11) is tried again: another
+# process may have held it for a moment.
 start() {
-  local at=$1
+  local at=$1 again ended=0
   shift
-  "$@" >"$room/$at.log" 2>&1 &
-  pid=$!
-  started[$pid]=
-  for _ in $(seq 300); do
-    if (exec 3<>"/dev/tcp/127.0.0.1/$at") 2>/dev/null; then
-      return
-    fi
-    kill -0 "$pid" 2>/dev/null || break
-    sleep 0.1
+  for again in 1 2 3 4 5; do
+    "$@" >"$room/$at.log" 2>&1 &
+    pid=$!
+    started[$pid]=
+    for _ in $(seq 300); do
+      if (exec 3<>"/dev/tcp/127.0.0.1/$at") 2>/dev/null; then
+        return
+      fi
+      kill -0 "$pid" 2>/dev/null || break
+      sleep 0.1
+    done
+    kill "$pid" 2>/dev/null || true
+    ended=0
+    ended "$pid" || ended=$?
+    [ "$ended" = 11 ] || break
+    sleep "$again"
   done
-  echo "$script: '$*' doesn't listen on port $at" >&2
+  echo "$script: '$*' doesn't listen on port $at, and ended with $ended" >&2
   tail -n 5 "$room/$at.log" >&2
   exit 1
 }
 
-# free_port: a free port of the loopback.
+# free_port: a free port of the loopback, of those that the system gives to no connection by itself.
 free_port() {
-  python3 -c 'import socket; s = socket.socket(); s.bind(("127.0.0.1", 0)); print(s.getsockname()[1])'
+  python3 -c 'import random, socket, sys
+for port in random.sample(range(10000, 32000), 1000):
+    with socket.socket() as held:
+        try:
+            held.bind(("127.0.0.1", port))
+        except OSError:
+            continue
+    sys.exit(print(port))
+sys.exit("no port is free")'
 }
 
 # served FILE: leaves what `serve` writes of this file in $room/served. A bad request, which is noted, ends it.
